@@ -1,0 +1,53 @@
+-- Lines as they are cut off, and the cards of the lines so far and of what is left.
+use Rattle.std.proofs.Common.{◌≡◌, ℕ, suc, ◌+◌, ◌-◌, ◌<◌, ◌≤◌, ◌==◌, Bool, true, false, not, cond, unwrap_or, Some, None, List, [], ◌∷◌, ◌++◌, length, take, drop, replicate, refl, ap, append_assoc, map, arith, nat_lt}
+use Rattle.std.proofs.lemmas.List.{map-append, take-take}
+use Rattle.std.proofs.lemmas.List.Sums.{prefix_len-le-length}
+use Rattle.std.proofs.lemmas.Bool.Decides.{nat_tests}
+use Rattle.std.specs.List.{position, position_or_len}
+use Rattle.text_base.specs.Cards.{cut, with_first, cards_of, statement_field}
+use Rattle.card_reader.specs.Views.{card_of}
+use Rattle.card_reader.specs.declared.card.Card.{Card}
+
+-- a byte that ends a line
+abbrev pub is_feed : ℕ → Bool
+is_feed c = c == 10
+
+-- the first place that passes lies within the list or at its end
+within : (l : List ℕ) → position_or_len is_feed l ≤ length l
+within l = prefix_len-le-length (λ c. not (is_feed c)) l
+
+-- the length, where no place passes
+at_end : (m n : ℕ) → m ≤ n → nat_lt m n ≡ false → n ≡ m
+at_end m n le e = grind (arith, nat_tests)
+
+-- the first place that passes, or the length, from the place as an option
+pub place_or_length : (l : List ℕ) → unwrap_or (position is_feed l) (length l) ≡ position_or_len is_feed l
+place_or_length l = go (nat_lt (position_or_len is_feed l) (length l)) refl
+  where
+    go : (b : Bool) → nat_lt (position_or_len is_feed l) (length l) ≡ b → unwrap_or (cond b (Some (position_or_len is_feed l)) None) (length l) ≡ position_or_len is_feed l
+    go true e = refl
+    go false e = at_end (position_or_len is_feed l) (length l) (within l) e
+
+-- the first line where one byte is all
+cut_one : (c : ℕ) (b : Bool) → cond b ([] ∷ []) ((c ∷ []) ∷ []) ≡ take (cond (not b) 1 0) (c ∷ []) ∷ cut (drop 1 (drop (cond (not b) 1 0) (c ∷ [])))
+cut_one c true = refl
+cut_one c false = refl
+
+-- the first line from the first line of what follows the first byte
+cut_more : (c : ℕ) (t : List ℕ) (m : ℕ) → cut t ≡ take m t ∷ cut (drop 1 (drop m t)) → (b : Bool) → cond b ([] ∷ cut t) (with_first c (cut t)) ≡ take (cond (not b) (1 + m) 0) (c ∷ t) ∷ cut (drop 1 (drop (cond (not b) (1 + m) 0) (c ∷ t)))
+cut_more c t m e true = refl
+cut_more c t m e false = let next : 1 + m ≡ suc m = omega arith in rw next (ap (with_first c) e)
+
+-- the first line of the bytes, and the lines behind its end
+pub cut_first : (l : List ℕ) → 0 < length l → cut l ≡ take (position_or_len is_feed l) l ∷ cut (drop 1 (drop (position_or_len is_feed l) l))
+cut_first [] some = absurd (omega arith)
+cut_first (c ∷ []) some = cut_one c (c == 10)
+cut_first (c ∷ (d ∷ t)) some = cut_more c (d ∷ t) (position_or_len is_feed (d ∷ t)) (cut_first (d ∷ t) (omega arith)) (c == 10)
+
+-- one more card, and the cards of one line fewer
+pub one_more : (file line : ℕ) (cards : List Card) (card : Card) (l : List ℕ) (ls : List (List ℕ)) → card.text ≡ statement_field l → card.place ≡ record { file = file; line = line } → map card_of (cards ++ card ∷ []) ++ cards_of file (line + 1) ls ≡ map card_of cards ++ cards_of file line (l ∷ ls)
+one_more file line cards card l ls text place = rw (map-append card_of cards (card ∷ []), append_assoc, text, place) refl
+
+-- a text cut at 66 and filled up, where it was cut at 66 before
+pub padded : (all items : List ℕ) (n : ℕ) → items ≡ take 66 all → n ≡ length (take 66 all) → take 66 items ++ replicate (66 - n) 32 ≡ take 66 all ++ replicate (66 - length (take 66 all)) 32
+padded all items n same size = rw (same, size, take-take 66 66 all (omega arith)) refl

@@ -1,0 +1,5 @@
+      PROGRAM T
+      I = 7
+      J = 007
+      I = 12
+      END

@@ -1,0 +1,87 @@
+-- What is held by the names of the outputs after a conversion.
+use Rattle.std.proofs.Common.{◌≡◌, ◌≢◌, ℕ, ◌+◌, true, false, cond, List, ◌++◌, length, codes, Option, Some, None, IfSome, refl, sym, ◌∙◌, ap, subst, arith, length-append}
+use Rattle.std.specs.FinMap.{get, insert, get-insert}
+use Rattle.std.specs.Str.{bytes_eq}
+use Rattle.std.specs.Cmp.Lexicographic.{nat_list_cmp_total}
+use Rattle.std.proofs.lemmas.Map.Text.{is_eq-slice_cmp}
+use Rattle.std.proofs.lemmas.Slice.Eq.{bytes_eq-Decides}
+use Rattle.text_base.specs.Files.{Files}
+use Rattle.tree77.specs.Tree.{SourceProgram}
+use Rattle.tree77.specs.Source.{IsSource}
+use Rattle.modern_cli.specs.Conversion.{program_text, program_map, program_report}
+use Rattle.modern_cli.specs.Written.{written, map_lines}
+use Rattle.modern_cli.specs.Words.{Command, map_name, report_name}
+use Rattle.modern_cli.specs.Outputs.{with_files, outputs}
+use Rattle.modern_cli.specs.FromFile.{FromFile, Converts, Headline}
+use Rattle.modern_cli.proofs.Carrying.{does_the_same}
+use Rattle.modern_cli.proofs.TopLemmas.{from_more}
+
+-- equal texts pass the test
+is_eq_true : (a b : List ℕ) → a ≡ b → bytes_eq a b ≡ true
+is_eq_true a b e = grind (arith, bytes_eq-Decides)
+
+-- other texts don't
+is_eq_false : (a b : List ℕ) → a ≢ b → bytes_eq a b ≡ false
+is_eq_false a b e = grind (arith, bytes_eq-Decides)
+
+-- a name with an ending isn't the name
+longer : (out ending : List ℕ) (n : ℕ) → length ending ≡ n + 1 → out ≢ out ++ ending
+longer out ending n long e = let size = length-append out ending in let same = ap length e in omega arith
+
+-- names with endings of two lengths are two
+other_length : (out a b : List ℕ) (n m : ℕ) → length a ≡ n → length b ≡ n + m + 1 → out ++ a ≢ out ++ b
+other_length out a b n m short long e = let one = length-append out a in let two = length-append out b in let same = ap length e in omega arith
+
+-- under the name that was set stand the bytes
+get_same : (files : Files) (name bytes : List ℕ) → get (insert files name bytes) name ≡ Some bytes
+get_same files name bytes = get-insert nat_list_cmp_total files name bytes name ∙ ap (λ t. cond t (Some bytes) (get files name)) (is_eq-slice_cmp name name ∙ is_eq_true name name refl)
+
+-- under another name stands what stood there
+get_other : (files : Files) (name bytes other : List ℕ) → other ≢ name → get (insert files name bytes) other ≡ get files other
+get_other files name bytes other differ = get-insert nat_list_cmp_total files name bytes other ∙ ap (λ t. cond t (Some bytes) (get files other)) (is_eq-slice_cmp other name ∙ is_eq_false other name differ)
+
+module _ (command : Command) (files : Files) (bytes : List ℕ) (p : SourceProgram) (is_source : IsSource 0 bytes p) where
+  -- with the text, with the map too, and with the report too
+  abbrev with_text : Files
+  with_text = insert files command.out (program_text p)
+
+  abbrev with_map : Files
+  with_map = insert with_text (map_name command.out) (program_map p)
+
+  abbrev with_report : Files
+  with_report = insert with_map (report_name command.out) (program_report p)
+
+  -- the text stands under its name
+  text_stays : get with_report command.out ≡ Some (program_text p)
+  text_stays =
+      get_other with_map (report_name command.out) (program_report p) command.out (longer command.out (codes ".report") 6 refl)
+      ∙ get_other with_text (map_name command.out) (program_map p) command.out (longer command.out (codes ".map") 3 refl)
+      ∙ get_same files command.out (program_text p)
+
+  -- the map stands under its name
+  map_stays : get with_report (map_name command.out) ≡ Some (program_map p)
+  map_stays =
+      get_other with_map (report_name command.out) (program_report p) (map_name command.out) (other_length command.out (codes ".map") (codes ".report") 4 2 refl refl)
+      ∙ get_same with_text (map_name command.out) (program_map p)
+
+  -- all outputs stand, and the text is that of a program that does the same
+  heads : Headline command bytes with_report
+  heads = record {
+    source = p;
+    is_source = is_source;
+    program = written p;
+    is_text = text_stays;
+    lines = map_lines p;
+    is_map = map_stays;
+    does_the_same = does_the_same bytes p is_source;
+  }
+
+-- where the contents are told
+headline_told : (old : Option Files) (command : Command) (bytes : List ℕ) (p : SourceProgram) → IsSource 0 bytes p → IfSome (with_files (outputs command p) old) (Headline command bytes)
+headline_told None command bytes p is_source = tt
+headline_told (Some files) command bytes p is_source = heads command files bytes p is_source
+
+-- what is held after a conversion
+pub headline : (command : Option Command) (old new : Option Files) → FromFile command old (Converts old new) → FromFile command old (λ c bytes. IfSome new (Headline c bytes))
+headline command old new converts = from_more command old (Converts old new) (λ c bytes. IfSome new (Headline c bytes))
+    (λ c bytes p. subst (λ held. IfSome held (Headline c bytes)) (sym p.2) (headline_told old c bytes p.0 p.1)) converts

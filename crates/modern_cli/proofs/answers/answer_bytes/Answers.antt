@@ -1,0 +1,9 @@
+use Rattle.modern_cli.specs.Views.{command_of}
+use Rattle.modern_cli.proofs.AnswerLemmas.{partly_wrote}
+use Rattle.modern_cli.proofs.answers.answer_bytes.Goals as goal
+
+pub returns-in-Ok-clause-partly : goal.returns-in-Ok-clause-partly
+returns-in-Ok-clause-partly g c =
+    let made = c.in-Ok.made in
+    partly_wrote (command_of c.args.request.now) (g.S.Shelf.held c.args.shelf.now) (g.S.Shelf.held c.write_texts.new.shelf) c.args.bytes.now made.text made.map made.report
+    c.requires.has c.in-Ok.ensures.converts c.write_texts.ensures.partly

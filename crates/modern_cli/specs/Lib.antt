@@ -1,0 +1,16 @@
+pub mod MapText
+pub mod Match
+pub mod Written
+pub mod Conversion
+pub mod StatementViews
+pub mod Names
+pub mod UnitLines
+pub mod Code
+pub mod Words
+pub mod Outputs
+pub mod FromFile
+pub mod Lines
+pub mod Answers
+pub mod Printed
+pub mod Views
+pub mod Stored

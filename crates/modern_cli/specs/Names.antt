@@ -1,0 +1,17 @@
+-- Names, each once, in the order in which they were added first.
+use Rattle.std.specs.Prelude.{◌≡◌, ℕ, List, [], ◌∷◌, ◌++◌, map, fold, if◌then◌else◌}
+use Rattle.std.specs.List.{list_any}
+use Rattle.std.specs.Str.{bytes_eq}
+use Rattle.std.specs.Borrow.{Bor}
+use Rattle.indexmap.specs.IndexSet.{IndexSet}
+
+-- a name joins the others at their end, unless it stands there
+abbrev pub with_name : List (List ℕ) → List ℕ → List (List ℕ)
+with_name names x = if list_any (bytes_eq x) names then names else names ++ x ∷ []
+
+abbrev pub with_names : List (List ℕ) → List (List ℕ) → List (List ℕ)
+with_names names xs = fold with_name names xs
+
+-- the set has the characters of exactly these names, in their order
+abbrev pub IsInStep : {S : Type 0} → IndexSet (Bor (List ℕ)) S → List (List ℕ) → Type 0
+IsInStep set names = map (λ (key : Bor (List ℕ)). key.now) set.keys ≡ names

@@ -1,0 +1,220 @@
+use crate::answers::Answer;
+use crate::printing::say;
+use crate::{Status, in_memory, modern};
+use std::alloc::Global;
+use std::fs;
+use std::test::Fail;
+use text_base::{Bytes, DiskShelf, MemoryShelf, MemorySink, Shelf, StdSink};
+
+const SOURCE: &[u8] = b"      PROGRAM T\n      I = 7\n      J = 007\n      I = 12\n      END\n";
+
+const TEXT: &[u8] =
+    b"PROGRAM T\n  IMPLICIT NONE\n  SAVE\n  INTEGER :: I\n  INTEGER :: J\n  I = 7\n  J = 7\n  I = 12\nEND PROGRAM T\n";
+
+const MAP: &[u8] = b"T.I 0 1 I T:I 1\nT.J 0 1 I T:J 1\n";
+
+const REPORT: &[u8] = b"UNITS 1\nWEBS 0\nKEPT 0\nARRAYS 0\nCUT 0\n";
+
+fn words_of(alloc: Global, words: &[&str]) -> Result<Vec<String>, Fail> {
+    let mut made = Vec::new(alloc);
+    for word in words {
+        made.push(String::from_str(alloc, word)?)?;
+    }
+    Ok(made)
+}
+
+#[test]
+fn words_out_of_form_are_refused(rt: HostRuntime) -> Result<(), Fail> {
+    let alloc = rt.alloc();
+    let cases: [&[&str]; 12] = [
+        &["one", "t.f", "t.f"],
+        &[],
+        &["one"],
+        &["one", "t.f"],
+        &["one", "a", "b", "c"],
+        &["one", "o.map", "o"],
+        &["one", "o.report", "o"],
+        &["one", "-t.f", "o"],
+        &["one", "t.f", "-o"],
+        &["one", "", "o"],
+        &["one", "t.f", ""],
+        &["two", "a", "b"],
+    ];
+    for words in cases {
+        let words = words_of(alloc, words)?;
+        let mut shelf = MemoryShelf::new(alloc);
+        shelf.hold("t.f", SOURCE)?;
+        let mut out = MemorySink::new(alloc, 2);
+        let status = modern(alloc, &words, &mut shelf, &mut out);
+        assert_eq!(rt; status, Status::Usage);
+        assert_eq!(rt; status.code(), 2);
+        assert_eq!(rt; out.bytes(), b"USAGE: modern one FILE OUT\n".as_slice());
+        assert!(rt; shelf.held("o").is_none());
+    }
+    Ok(())
+}
+
+#[test]
+fn what_is_not_read_is_said(rt: HostRuntime) -> Result<(), Fail> {
+    let alloc = rt.alloc();
+    let cases: [(&str, u64, Status, &[u8]); 3] = [
+        ("gone.f", 0, Status::Missing, b"MISSING gone.f\n"),
+        ("t.f", 1, Status::ReadFault, b"READ FAULT t.f\n"),
+        ("gone.f", 1, Status::ReadFault, b"READ FAULT gone.f\n"),
+    ];
+    for (file, read, status, text) in cases {
+        for most in [1, 2, 7, 100] {
+            let words = words_of(alloc, &["one", file, "o"])?;
+            let mut shelf = MemoryShelf::new(alloc);
+            shelf.hold("t.f", SOURCE)?;
+            shelf.fail_read(read)?;
+            let mut out = MemorySink::new(alloc, most);
+            assert_eq!(rt; modern(alloc, &words, &mut shelf, &mut out), status);
+            assert_eq!(rt; out.bytes(), text);
+            assert!(rt; shelf.held("o").is_none());
+        }
+    }
+    Ok(())
+}
+
+#[test]
+fn a_failing_sink_cuts_the_text(rt: HostRuntime) -> Result<(), Fail> {
+    let alloc = rt.alloc();
+    // The wanted status, the most bytes of one call, the call that fails, the status that comes, and what is printed.
+    let cases: [(Status, usize, u64, Status, &[u8]); 8] = [
+        (Status::Done, 2, 0, Status::Done, REPORT),
+        (Status::Refused, 7, 0, Status::Refused, REPORT),
+        (
+            Status::Done,
+            2,
+            2,
+            Status::WriteFault,
+            b"UNWRITE FAULT output\n",
+        ),
+        (
+            Status::Refused,
+            7,
+            1,
+            Status::WriteFault,
+            b"WRITE FAULT output\n",
+        ),
+        (Status::Missing, 7, 2, Status::Missing, b"UNITS 1"),
+        (Status::Usage, 1, 1, Status::Usage, b""),
+        (Status::WriteFault, 1, 3, Status::WriteFault, b"UN"),
+        (Status::Memory, 100, 1, Status::Memory, b""),
+    ];
+    for (wanted, most, put, status, text) in cases {
+        let mut out = MemorySink::new(alloc, most);
+        out.fail_put(put)?;
+        let answer = Answer {
+            status: wanted,
+            text: Bytes::from_slice(alloc, REPORT)?,
+        };
+        assert_eq!(rt; say(&mut out, &Ok(answer)), status);
+        assert_eq!(rt; out.bytes(), text);
+    }
+    Ok(())
+}
+
+// From here on the tests want the body of `convert`: with the stub every conversion answers `Memory`.
+
+#[test]
+fn a_file_is_converted(rt: HostRuntime) -> Result<(), Fail> {
+    let alloc = rt.alloc();
+    let words = words_of(alloc, &["one", "t.f", "t.f90"])?;
+    let mut shelf = MemoryShelf::new(alloc);
+    shelf.hold("t.f", SOURCE)?;
+    let mut out = MemorySink::new(alloc, 3);
+    let status = in_memory(alloc, &words, &mut shelf, &mut out);
+    assert_eq!(rt; status, Status::Done);
+    assert_eq!(rt; status.code(), 0);
+    assert_eq!(rt; out.bytes(), REPORT);
+    assert!(rt; shelf.held("t.f") == Some(SOURCE));
+    assert!(rt; shelf.held("t.f90") == Some(TEXT));
+    assert!(rt; shelf.held("t.f90.map") == Some(MAP));
+    assert!(rt; shelf.held("t.f90.report") == Some(REPORT));
+    Ok(())
+}
+
+#[test]
+fn a_failing_write_ends_the_writing(rt: HostRuntime) -> Result<(), Fail> {
+    let alloc = rt.alloc();
+    // The write and the call of the sink that fail, what is printed, and how many outputs stand.
+    let cases: [(u64, u64, &[u8], u64); 4] = [
+        (1, 0, b"WRITE FAULT o\n", 0),
+        (2, 0, b"WRITE FAULT o.map\n", 1),
+        (3, 0, b"WRITE FAULT o.report\n", 2),
+        (0, 2, b"UNWRITE FAULT output\n", 3),
+    ];
+    for (write, put, text, stand) in cases {
+        let words = words_of(alloc, &["one", "t.f", "o"])?;
+        let mut shelf = MemoryShelf::new(alloc);
+        shelf.hold("t.f", SOURCE)?;
+        shelf.fail_write(write)?;
+        let mut out = MemorySink::new(alloc, 2);
+        out.fail_put(put)?;
+        let status = modern(alloc, &words, &mut shelf, &mut out);
+        assert_eq!(rt; status, Status::WriteFault);
+        assert_eq!(rt; status.code(), 6);
+        assert_eq!(rt; out.bytes(), text);
+        assert_eq!(rt; shelf.held("o").is_some(), stand >= 1);
+        assert_eq!(rt; shelf.held("o.map").is_some(), stand >= 2);
+        assert_eq!(rt; shelf.held("o.report").is_some(), stand >= 3);
+    }
+    Ok(())
+}
+
+#[test]
+fn what_is_no_source_is_refused(rt: HostRuntime) -> Result<(), Fail> {
+    let alloc = rt.alloc();
+    let cases: [&[u8]; 8] = [
+        // a lower-case letter
+        b"      PROGRAM T\n      i = 1\n      END\n",
+        // a line of 73 bytes
+        b"      PROGRAM T\n      I = 1                                                              \n      END\n",
+        // no END
+        b"      PROGRAM T\n      I = 1\n",
+        // a variable that isn't an integer
+        b"      PROGRAM T\n      A = 1\n      END\n",
+        // a variable of the program's name
+        b"      PROGRAM I\n      I = 1\n      END\n",
+        // a constant past the integers
+        b"      PROGRAM T\n      I = 2147483648\n      END\n",
+        // a name of 32 letters
+        b"      PROGRAM T\n      IIIIIIIIIIIIIIIIIIIIIIIIIIIIIIII = 1\n      END\n",
+        // nothing
+        b"",
+    ];
+    for source in cases {
+        let words = words_of(alloc, &["one", "t.f", "o"])?;
+        let mut shelf = MemoryShelf::new(alloc);
+        shelf.hold("t.f", source)?;
+        let mut out = MemorySink::new(alloc, 2);
+        let status = modern(alloc, &words, &mut shelf, &mut out);
+        assert_eq!(rt; status, Status::Refused);
+        assert_eq!(rt; status.code(), 1);
+        assert_eq!(rt; out.bytes(), b"t.f:0: 99 NotBuilt 0\n".as_slice());
+        assert!(rt; shelf.held("o").is_none());
+        assert!(rt; shelf.held("o.map").is_none());
+        assert!(rt; shelf.held("o.report").is_none());
+    }
+    Ok(())
+}
+
+#[test]
+fn a_real_file_is_converted(rt: HostRuntime) -> Result<(), Fail> {
+    let alloc = rt.alloc();
+    let mut shelf = DiskShelf::new(&rt);
+    let mut out = StdSink::new(&rt);
+    shelf.write("real.f", SOURCE)?;
+    let mut bytes = Vec::new(alloc);
+    shelf.read("real.f", &mut bytes)?;
+    assert_eq!(rt; bytes.as_slice(), SOURCE);
+    let gone = words_of(alloc, &["one", "gone.f", "real.f90"])?;
+    assert_eq!(rt; modern(alloc, &gone, &mut shelf, &mut out), Status::Missing);
+    let words = words_of(alloc, &["one", "real.f", "real.f90"])?;
+    assert_eq!(rt; modern(alloc, &words, &mut shelf, &mut out), Status::Done);
+    let text = fs::read(&rt, "real.f90")?;
+    assert_eq!(rt; text.as_slice(), TEXT);
+    Ok(())
+}

@@ -1,0 +1,12 @@
+pub mod Causes
+pub mod Chars
+pub mod Cards
+pub mod Faults
+pub mod Files
+pub mod Put
+pub mod Memory
+pub mod Refusing
+pub mod Trees
+pub mod Values
+pub mod Runs
+pub mod Evaluation

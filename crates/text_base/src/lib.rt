@@ -1,0 +1,24 @@
+//! Bytes, names, places, causes of refusal, and the outside: a shelf of named files and a sink of text.
+#![tactic(auto)]
+
+mod bytes;
+mod disk;
+mod memory_shelf;
+mod memory_sink;
+mod name;
+mod refusal;
+mod shelf;
+mod sink;
+mod stop_code;
+#[cfg(test)]
+mod tests;
+
+pub use bytes::Bytes;
+pub use disk::{DiskShelf, StdSink};
+pub use memory_shelf::MemoryShelf;
+pub use memory_sink::MemorySink;
+pub use name::Name;
+pub use refusal::{Cause, Place, Refusal, Refusals, not_built};
+pub use shelf::{Shelf, ShelfRead, ShelfWrite};
+pub use sink::{Sink, SinkError};
+pub use stop_code::StopCode;

@@ -1,0 +1,124 @@
+-- The program that is read is the one that the source is.
+use Rattle.std.proofs.Common.{◌≡◌, ℕ, Bool, true, false, List, [], ◌∷◌, Option, Some, None, refl, sym, ap, ◌∙◌, subst}
+use Rattle.std.specs.Prelude.{if◌then◌else◌}
+use Rattle.std.specs.Option.{option_map, option_and_then}
+use Rattle.text_base.specs.Cards.{Card, cards, is_readable}
+use Rattle.text_base.specs.Chars.{without_blanks}
+use Rattle.text_base.specs.declared.refusal.Place.{Place}
+use Rattle.tree77.specs.Tree.{simple, Code, done, item, SourceUnit, SourceProgram}
+use Rattle.tree77.specs.Spelling.{Statement, program, action, end}
+use Rattle.tree77.specs.Typing.{is_typed}
+use Rattle.tree77.specs.Source.{SpellsItems, SpellsUnit, IsSource}
+use Rattle.tree77.specs.Reading.{read_statement, Items, join_items, read_items, unit_with, read_unit, typed_unit, read_source}
+use Rattle.tree77.proofs.StatementReading.{is_spelled, is_read}
+
+-- a step that gives something had something to go on from
+record Went {A B : Type 0} (o : Option A) (f : A → Option B) (y : B) : Type 0 where
+  from : A
+  was : o ≡ Some from
+  is : f from ≡ Some y
+
+went : {A B : Type 0} (o : Option A) (f : A → Option B) (y : B) → option_and_then f o ≡ Some y → Went o f y
+went None f y e = absurd cc
+went (Some x) f y e = record { from = x; was = refl; is = e }
+
+record Mapped {A B : Type 0} (o : Option A) (f : A → B) (y : B) : Type 0 where
+  from : A
+  was : o ≡ Some from
+  is : f from ≡ y
+
+mapped : {A B : Type 0} (o : Option A) (f : A → B) (y : B) → option_map f o ≡ Some y → Mapped o f y
+mapped None f y e = absurd cc
+mapped (Some x) f y e = record { from = x; was = refl; is = cc }
+
+-- ---- lists
+
+join_spelled : (card : Card) (s : Statement) (rest : List Card) (more : Option Items) (r : Items) → ((q : Items) → more ≡ Some q → SpellsItems rest q.0 q.1)
+    → read_statement (without_blanks card.text) ≡ Some s → join_items card s rest more ≡ Some r → SpellsItems (card ∷ rest) r.0 r.1
+join_spelled card (program x) rest more r follows was e = absurd cc
+join_spelled card end [] more r follows was e =
+    let same : ◌≡◌ {A = Items} (done, card.place) r = cc in
+    subst (λ (q : Items). SpellsItems (card ∷ []) q.0 q.1) same (is_spelled _ end was, refl, refl)
+join_spelled card end (next ∷ rest) more r follows was e = absurd cc
+join_spelled card (action a) rest more r follows was e =
+    let m = mapped more (λ (q : Items). (item 0 card.place (simple a) q.0, q.1)) r e in
+    subst (λ (q : Items). SpellsItems (card ∷ rest) q.0 q.1) m.is (is_spelled _ (action a) was, refl, refl, follows m.from m.was)
+
+items_spelled : (cs : List Card) (r : Items) → read_items cs ≡ Some r → SpellsItems cs r.0 r.1
+items_spelled [] r e = absurd cc
+items_spelled (card ∷ rest) r e =
+    let w = went (read_statement (without_blanks card.text)) (λ s. join_items card s rest (read_items rest)) r e in
+    join_spelled card w.from rest (read_items rest) r (λ q is. items_spelled rest q is) w.was w.is
+
+items_read : (cs : List Card) (code : Code) (last : Place) → SpellsItems cs code last → read_items cs ≡ Some (code, last)
+items_read [] code last s = absurd s
+items_read (card ∷ []) done last s =
+    ap (option_and_then (λ t. join_items card t [] None)) (is_read _ end s.0) ∙ (λ i. Some (done, sym s.1 i))
+items_read (card ∷ next ∷ rest) done last s = absurd (nonempty s.2)
+  where
+    nonempty : next ∷ rest ≡ [] → ⊥
+    nonempty e = cc
+items_read (card ∷ rest) (item label here (simple a) more) last s =
+    ap (option_and_then (λ t. join_items card t rest (read_items rest))) (is_read _ (action a) s.0)
+    ∙ ap (option_map (λ (r : Items). (item 0 card.place (simple a) r.0, r.1))) (items_read rest more last s.3)
+    ∙ (λ i. Some (item (sym s.1 i) (sym s.2 i) (simple a) more, last))
+
+-- ---- units
+
+unit_with_spelled : (card : Card) (rest : List Card) (s : Statement) (items : Option Items) (u : SourceUnit) → ((r : Items) → items ≡ Some r → SpellsItems rest r.0 r.1)
+    → read_statement (without_blanks card.text) ≡ Some s → unit_with card s items ≡ Some u → SpellsUnit (card ∷ rest) u
+unit_with_spelled card rest (program x) items u follows was e =
+    let m = mapped items (λ (r : Items). record { name = x; place = card.place; code = r.0; end = r.1 }) u e in
+    subst (SpellsUnit (card ∷ rest)) m.is (is_spelled _ (program x) was, refl, follows m.from m.was)
+unit_with_spelled card rest (action a) items u follows was e = absurd cc
+unit_with_spelled card rest end items u follows was e = absurd cc
+
+unit_spelled : (cs : List Card) (u : SourceUnit) → read_unit cs ≡ Some u → SpellsUnit cs u
+unit_spelled [] u e = absurd cc
+unit_spelled (card ∷ rest) u e =
+    let w = went (read_statement (without_blanks card.text)) (λ s. unit_with card s (read_items rest)) u e in
+    unit_with_spelled card rest w.from (read_items rest) u (λ r is. items_spelled rest r is) w.was w.is
+
+unit_read : (cs : List Card) (u : SourceUnit) → SpellsUnit cs u → read_unit cs ≡ Some u
+unit_read [] u s = absurd s
+unit_read (card ∷ rest) u s =
+    ap (option_and_then (λ t. unit_with card t (read_items rest))) (is_read _ (program u.name) s.0)
+    ∙ ap (option_map (λ (r : Items). record { name = u.name; place = card.place; code = r.0; end = r.1 })) (items_read rest u.code u.end s.2)
+    ∙ ap (λ (p : Place). Some (record { name = u.name; place = p; code = u.code; end = u.end })) (sym s.1)
+
+-- ---- programs
+
+-- what is read is the program of the source
+pub source_of : (file : ℕ) (bytes : List ℕ) (p : SourceProgram) → read_source file bytes ≡ Some p → IsSource file bytes p
+source_of file bytes p e = go (is_readable bytes) refl e
+  where
+    typed : (u : SourceUnit) (b : Bool) → is_typed u ≡ b → (v : SourceUnit) → (if b then Some u else None) ≡ Some v → (is_typed v ≡ true) × (u ≡ v)
+    typed u true is v e = let same : u ≡ v = cc in (subst (λ z. is_typed z ≡ true) same is, same)
+    typed u false is v e = absurd cc
+
+    go : (b : Bool) → is_readable bytes ≡ b → (if b then option_map (λ (unit : SourceUnit). record { units = unit ∷ [] }) (option_and_then typed_unit (read_unit (cards file bytes))) else None) ≡ Some p → IsSource file bytes p
+    go true is e =
+        let m = mapped (option_and_then typed_unit (read_unit (cards file bytes))) (λ (unit : SourceUnit). record { units = unit ∷ [] }) p e in
+        let w = went (read_unit (cards file bytes)) typed_unit m.from m.was in
+        let t = typed w.from (is_typed w.from) refl m.from w.is in
+        record {
+          unit = m.from;
+          readable = is;
+          spelled = subst (SpellsUnit (cards file bytes)) t.1 (unit_spelled (cards file bytes) w.from w.was);
+          typed = t.0;
+          whole = sym m.is;
+        }
+    go false is e = absurd cc
+
+-- the program of the source is read
+pub source_read : (file : ℕ) (bytes : List ℕ) (p : SourceProgram) → IsSource file bytes p → read_source file bytes ≡ Some p
+source_read file bytes p s =
+    ap (λ b. if b then option_map (λ (unit : SourceUnit). record { units = unit ∷ [] }) (option_and_then typed_unit (read_unit (cards file bytes))) else None) s.readable
+    ∙ ap (λ o. option_map (λ (unit : SourceUnit). record { units = unit ∷ [] }) (option_and_then typed_unit o)) (unit_read (cards file bytes) s.unit s.spelled)
+    ∙ ap (λ b. option_map (λ (unit : SourceUnit). record { units = unit ∷ [] }) (if b then Some s.unit else None)) s.typed
+    ∙ ap Some (sym s.whole)
+
+-- a source has at most one program
+pub one_program : (file : ℕ) (bytes : List ℕ) (p q : SourceProgram) → IsSource file bytes p → IsSource file bytes q → p ≡ q
+one_program file bytes p q a b =
+    let e : Some p ≡ Some q = sym (source_read file bytes p a) ∙ source_read file bytes q b in cc

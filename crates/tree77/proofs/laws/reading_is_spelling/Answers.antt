@@ -1,0 +1,15 @@
+use Rattle.tree77.proofs.StatementReading.{is_spelled, is_read}
+use Rattle.tree77.proofs.SourceReading.{source_of, source_read}
+use Rattle.tree77.proofs.laws.reading_is_spelling.Goals as goal
+
+pub returns-clause-statement_found : goal.returns-clause-statement_found
+returns-clause-statement_found c = is_spelled
+
+pub returns-clause-statement_only : goal.returns-clause-statement_only
+returns-clause-statement_only c = is_read
+
+pub returns-clause-source_found : goal.returns-clause-source_found
+returns-clause-source_found c = source_of
+
+pub returns-clause-source_only : goal.returns-clause-source_only
+returns-clause-source_only c = source_read

@@ -1,0 +1,33 @@
+-- The declared tree as the plain one.
+use Rattle.std.specs.Prelude.{List, [], ◌∷◌, map}
+use Rattle.text_base.specs.Trees as t
+use Rattle.tree77.specs.Tree.{Stmt, simple, Code, done, item, SourceUnit, SourceProgram}
+use Rattle.tree77.specs.declared.tree.Expr.{Expr}
+use Rattle.tree77.specs.declared.tree.Expr.TheVariants.{Int, Name}
+use Rattle.tree77.specs.declared.tree.Stmt77.{Stmt77}
+use Rattle.tree77.specs.declared.tree.Stmt77.TheVariants.{Assign}
+use Rattle.tree77.specs.declared.tree.Body77.{Body77}
+use Rattle.tree77.specs.declared.tree.Body77.TheVariants.{Simple}
+use Rattle.tree77.specs.declared.tree.Item77.{Item77}
+use Rattle.tree77.specs.declared.tree.Unit77.{Unit77}
+use Rattle.tree77.specs.declared.tree.Program77.{Program77}
+
+abbrev pub expr_of : Expr → t.Expr
+expr_of (Int v) = t.int v
+expr_of (Name x) = t.name x
+
+abbrev pub action_of : Stmt77 → t.Action
+action_of (Assign d e) = t.assign (expr_of d) (expr_of e)
+
+abbrev pub stmt_of : Body77 → Stmt
+stmt_of (Simple s) = simple (action_of s)
+
+abbrev pub code_of : List Item77 → Code
+code_of [] = done
+code_of (i ∷ is) = item i.label i.place (stmt_of i.body) (code_of is)
+
+abbrev pub unit_of : Unit77 → SourceUnit
+unit_of u = record { name = u.name; place = u.place; code = code_of u.items; end = u.end.place }
+
+abbrev pub program_of : Program77 → SourceProgram
+program_of p = record { units = map unit_of p.units }

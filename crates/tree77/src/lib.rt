@@ -1,0 +1,10 @@
+//! FORTRAN 77 programs as trees, with the definitions of their spelling, their storage and their meaning.
+#![tactic(auto)]
+
+mod laws;
+mod tree;
+
+pub use laws::{one_program, reading_is_spelling};
+pub use tree::{
+    Body77, EndIf, Expr, Item77, Items77, Program77, Stmt77, Unit77, UnitKind, Units77,
+};

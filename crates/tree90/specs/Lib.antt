@@ -1,0 +1,4 @@
+pub mod Tree
+pub mod Plain
+pub mod Printed
+pub mod Meaning

@@ -1,0 +1,40 @@
+-- The one text of a Fortran 90 program (ISO/IEC 1539:1991 section 3.3). No line of a program of this language
+-- has more than 132 characters, so none is continued.
+use Rattle.std.specs.Prelude.{ℕ, ◌*◌, List, [], ◌∷◌, ◌++◌, min, replicate, codes, flat_map}
+use Rattle.std.specs.Fmt.{signed_decimal}
+use Rattle.text_base.specs.Trees.{Expr, int, name, Action, assign}
+use Rattle.tree90.specs.Tree.{Stmt, simple, Code, done, item, Declared, integer_object, FreeUnit, FreeProgram}
+
+-- a line has two blanks for each level, at most 60, and ends with LF
+abbrev pub line : ℕ → List ℕ → List ℕ
+line level text = replicate (min (2 * level) 60) 32 ++ text ++ 10 ∷ []
+
+abbrev pub expr_text : Expr → List ℕ
+expr_text (int v) = signed_decimal v
+expr_text (name x) = x
+
+abbrev pub action_text : Action → List ℕ
+action_text (assign d e) = expr_text d ++ codes " = " ++ expr_text e
+
+abbrev pub stmt_text : ℕ → Stmt → List ℕ
+stmt_text level (simple a) = line level (action_text a)
+
+abbrev pub code_text : ℕ → Code → List ℕ
+code_text level done = []
+code_text level (item s rest) = stmt_text level s ++ code_text level rest
+
+abbrev pub declared_text : Declared → List ℕ
+declared_text (integer_object x) = line 1 (codes "INTEGER :: " ++ x)
+
+-- the header, the fixed lines, the declarations, the statements and the END line of a unit
+abbrev pub unit_text : FreeUnit → List ℕ
+unit_text u =
+    line 0 (codes "PROGRAM " ++ u.name)
+    ++ line 1 (codes "IMPLICIT NONE")
+    ++ line 1 (codes "SAVE")
+    ++ flat_map declared_text u.declared
+    ++ code_text 1 u.code
+    ++ line 0 (codes "END PROGRAM " ++ u.name)
+
+abbrev pub printed : FreeProgram → List ℕ
+printed p = flat_map unit_text p.units

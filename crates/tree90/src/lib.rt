@@ -1,0 +1,9 @@
+//! Fortran 90 programs as trees, with the definitions of their text and their meaning.
+#![tactic(auto)]
+
+mod tree;
+
+pub use tree::{
+    Declared90, Declared90s, Expr90, Item90, Items90, Program90, Simple90, Stmt90, Stmts90, Type90,
+    Unit90, Unit90s, UnitKind90,
+};

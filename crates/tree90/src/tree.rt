@@ -1,0 +1,73 @@
+// The tree of a Fortran 90 program.
+use sqlite_items::Items;
+use text_base::Name;
+
+/// An expression (ISO/IEC 1539:1991 section 7.1): an integer constant or a variable.
+#[derive(Debug, Drop)]
+pub enum Expr90 {
+    Int(i32),
+    Name(Name),
+}
+
+/// A simple statement: an assignment has the variable and the expression (section 7.5.1).
+#[derive(Debug, Drop)]
+pub enum Simple90 {
+    Assign(Expr90, Expr90),
+}
+
+/// An executable statement or construct.
+#[derive(Debug, Drop)]
+pub enum Stmt90 {
+    Simple(Simple90),
+}
+
+/// A list of statements, which contracts see as the list.
+pub type Stmts90 = Items<Stmt90>;
+
+/// The statements that stand for one item of a source list.
+#[derive(Debug, Drop)]
+pub struct Item90 {
+    pub body: Stmts90,
+}
+
+/// A list of items, which contracts see as the list.
+pub type Items90 = Items<Item90>;
+
+/// The type of an object (section 5.1.1).
+#[derive(Clone, Copy, Debug, PartialEq, Eq)]
+pub enum Type90 {
+    Integer,
+}
+
+/// A declaration: a scalar object has its type and its name (section 5.1).
+#[derive(Debug, Drop)]
+pub enum Declared90 {
+    Object(Type90, Name),
+}
+
+/// A list of declarations, which contracts see as the list.
+pub type Declared90s = Items<Declared90>;
+
+/// The kind of a program unit (section 2.2).
+#[derive(Clone, Copy, Debug, PartialEq, Eq)]
+pub enum UnitKind90 {
+    Main,
+}
+
+/// A program unit: its kind, its name, its declarations and its executable statements.
+#[derive(Debug, Drop)]
+pub struct Unit90 {
+    pub kind: UnitKind90,
+    pub name: Name,
+    pub declared: Declared90s,
+    pub items: Items90,
+}
+
+/// A list of units, which contracts see as the list.
+pub type Unit90s = Items<Unit90>;
+
+/// A program.
+#[derive(Debug, Drop)]
+pub struct Program90 {
+    pub units: Unit90s,
+}
