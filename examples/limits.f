@@ -1,8 +1,10 @@
       PROGRAM LIMITS
-      MAXLIN = 66
-      MAXCOL = 00132
+      MaxLin = 66
+      MAXCOL = MAXLIN + 00066
       NFILES = 1
-      LINENO = 0
+      LINENO = NFILES - 1
       MAXINT = 2147483647
-      NFILES = 4
+      MININT = -MAXINT - 1
+      NFILES = NFILES + 3
+      STOP
       END

@@ -1,5 +1,5 @@
       PROGRAM T
-      I = 7
-      J = 007
-      I = 12
+      I = 1
+      J = I + 2 - 5
+      STOP
       END

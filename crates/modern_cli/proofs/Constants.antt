@@ -9,7 +9,8 @@ use Rattle.std.proofs.lemmas.Grind.{common_steps}
 use Rattle.std.proofs.lemmas.Bool.{leb-true}
 use Rattle.std.proofs.lemmas.Str.{digit_value_digit}
 use Rattle.text_base.specs.Chars.{is_digit}
-use Rattle.tree77.specs.Reading.{read_constant}
+use Rattle.tree77.specs.Reading.{is_constant}
+use Rattle.modern_cli.specs.Operands.{constant_value}
 use Rattle.modern_cli.proofs.Names.{both_true}
 
 -- further digits make no number smaller
@@ -31,7 +32,7 @@ both_false false b e = refl
 
 -- digits that have passed the greatest constant are none
 pub too_great : (digits rest : List ℕ) (v c : ℕ) → digits_value_after 10 v (c ∷ rest) ≡ digits_value 10 digits → is_digit c ≡ true → 2147483647 < v * 10 + (c - 48)
-    → ◌≡◌ {A = Option ℤ} None (option_map pos (read_constant digits))
+    → ◌≡◌ {A = Option ℤ} None (option_map pos (constant_value digits))
 too_great digits rest v c goes_on digit passed =
     let more = after_le (v * 10 + digit_value c) rest in
     let value = value_of_digit c digit in

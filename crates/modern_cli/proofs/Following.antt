@@ -1,7 +1,8 @@
 -- The run of the nested list follows the run of the flat one.
 use Rattle.std.proofs.Common.{◌≡◌, ℕ, zero, suc, ◌<◌, ◌≤◌, List, [], Option, Some, None, refl, sym, subst, arith}
-use Rattle.text_base.specs.Trees.{Expr, int, name, Action, assign}
-use Rattle.text_base.specs.Values.{Value, integer, RunFault, Undefined}
+use Rattle.text_base.specs.Trees.{Expr, int, name, unary, binary, Action, assign, stop}
+use Rattle.text_base.specs.Values.{Value, integer, RunFault, Undefined, Overflow}
+use Rattle.text_base.specs.Operations.{unary_result, binary_result}
 use Rattle.text_base.specs.Runs.{Final, going, ended, fault, Out, gives, over, bind, close, tick, known, How, normal}
 use Rattle.text_base.specs.Evaluation.{Memory, Call}
 use Rattle.text_base.specs.Evaluation as e
@@ -74,14 +75,28 @@ module _ (home : List ℕ) (names : List (List ℕ)) where
     follows_eval (int v) n w w' k k' a go = go n (omega arith) w w' a (integer v)
     follows_eval (name x) n w w' k k' a go =
         follows_known here nowhere Undefined Undefined ((memory77 home names).read w x) ((untagged home).read w' x) n w w' k k' (λ v is. agrees_read home names w w' x v a is) (λ v. go n (omega arith) w w' a v)
+    follows_eval (unary op x) n w w' k k' a go =
+        rebind n (e.eval (memory77 home names) call here x n w) _ k (λ j. e.eval (untagged home) call' nowhere x j w') _ k'
+        (follows_eval x n w w' _ _ a (λ m le v v' b value.
+        follows_known here nowhere Overflow Overflow (unary_result op value) (unary_result op value) m v v' k k' (λ z is. is) (λ z. go m (omega arith) v v' b z)))
+    follows_eval (binary op x y) n w w' k k' a go =
+        rebind n (e.eval (memory77 home names) call here x n w) _ k (λ j. e.eval (untagged home) call' nowhere x j w') _ k'
+        (follows_eval x n w w' _ _ a (λ m le v v' b left.
+        rebind m (e.eval (memory77 home names) call here y m v) _ k (λ j. e.eval (untagged home) call' nowhere y j v') _ k'
+        (follows_eval y m v v' _ _ b (λ i le2 u u' d right.
+        follows_known here nowhere Overflow Overflow (binary_result op left right) (binary_result op left right) i u u' k k' (λ z is. is) (λ z. go i (omega arith) u u' d z)))))
 
     follows_define : (d : Expr) (v : Value) (n : ℕ) (w : Store) (w' : Objects) (k : ℕ → Store → How → Final Store) (k' : ℕ → Objects → How → Final Objects)
         → Agrees home names w w' → Goes n k k' → Follows n (close (e.define (memory77 home names) call here d v n w) k) (λ j. close (e.define (untagged home) call' nowhere d v j w') k')
     follows_define (int u) v n w w' k k' a go = follows_fault n here _ _
+    follows_define (unary op x) v n w w' k k' a go = follows_fault n here _ _
+    follows_define (binary op x y) v n w w' k k' a go = follows_fault n here _ _
     follows_define (name x) v n w w' k k' a go = go n (omega arith) _ _ (agrees_write home names w w' x v a) normal
 
     follows_action : (x : Action) (n : ℕ) (w : Store) (w' : Objects) (k : ℕ → Store → How → Final Store) (k' : ℕ → Objects → How → Final Objects)
         → Agrees home names w w' → Goes n k k' → Follows n (close (e.action (memory77 home names) call here x n w) k) (λ j. close (e.action (untagged home) call' nowhere x j w') k')
+    follows_action stop n w w' k k' a go =
+        follows_tick n w w' _ k _ k' a (λ m lt. record { by = (m, omega arith, (a, refl)) })
     follows_action (assign d x) n w w' k k' a go =
         follows_tick n w w' _ k _ k' a (λ m lt.
         rebind m (e.eval (memory77 home names) call here x m w) _ k (λ j. e.eval (untagged home) call' nowhere x j w') _ k'
@@ -95,6 +110,7 @@ module _ (home : List ℕ) (names : List (List ℕ)) where
         → ((m : ℕ) → m ≤ n → (v : Store) (v' : Objects) → Agrees home names v v' → Follows m (close (from (memory77 home names) call rest 0 loops m v) k) (λ j. k' j v' normal))
         → Follows n (close (from (memory77 home names) call (lines c depth rest) 0 loops n w) k) (λ j. close (body (untagged home) call' (written_code c) j w') k')
     follows_body source.done depth n rest loops w w' k k' a after = after n (omega arith) w w' a
+    follows_body (source.item label here source.continue more) depth n rest loops w w' k k' a after = follows_body more depth n rest loops w w' k k' a after
     follows_body (source.item label here (source.simple x) more) depth n rest loops w w' k k' a after =
         rebind n (e.action (memory77 home names) call here x n w) (proceed (from (memory77 home names) call (lines more depth rest)) loops) k (λ j. e.action (untagged home) call' nowhere x j w') _ k'
         (follows_action call call' here x n w w' _ _ a (λ m le v v' b how. step (λ m le v v' b. follows_body more depth m rest loops v v' k k' b (λ i le2 u u' d. after i (omega arith) u u' d)) how m le v v' b))

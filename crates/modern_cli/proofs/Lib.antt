@@ -6,6 +6,11 @@ pub mod Mapping
 pub mod Carrying
 pub mod Constants
 pub mod Lists
+pub mod OperandLemmas
+pub mod ShortPieces
+pub mod ShortSpellings
+pub mod ShortLineLemmas
+pub mod TypingLemmas
 pub mod CodeLemmas
 pub mod MapLemmas
 pub mod NameLemmas

@@ -4,7 +4,7 @@ use Rattle.std.specs.List.{list_all}
 use Rattle.std.specs.Option.{option_map, option_and_then}
 use Rattle.std.proofs.lemmas.List.{drop_more, drop_all}
 use Rattle.text_base.specs.Cards as form
-use Rattle.text_base.specs.Chars.{without_blanks}
+use Rattle.text_base.specs.Chars.{characters}
 use Rattle.card_reader.specs.Views.{card_of}
 use Rattle.card_reader.specs.declared.card.Card.{Card}
 use Rattle.tree77.specs.Tree.{Code, done, item}
@@ -33,7 +33,7 @@ code_after-done [] = refl
 code_after-done (x ∷ is) = ap (item x.label x.place (stmt_of x.body)) (code_after-done is)
 
 module _ (items : List Item77) (cards : List Card) (i : ℕ) (card : Card) (step : Step) (all : Option Items) (lt : i < length cards) (is : card ≡ get_or cards i card)
-    (does : (rest : List form.Card) (more : Option Items) → adds step rest more ≡ option_and_then (λ s. join_items (card_of card) s rest more) (read_statement (without_blanks card.text)))
+    (does : (rest : List form.Card) (more : Option Items) → adds step rest more ≡ option_and_then (λ s. join_items (card_of card) s rest more) (read_statement (characters card.text)))
     (so_far : option_map (after_items items) (read_items (map card_of (drop i cards))) ≡ all) where
   abbrev rest : List form.Card
   rest = map card_of (drop (i + 1) cards)

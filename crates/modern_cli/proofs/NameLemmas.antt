@@ -8,9 +8,13 @@ use Rattle.std.proofs.lemmas.List.Elements.{filter-append}
 use Rattle.std.proofs.lemmas.List.Sums.{fold-append}
 use Rattle.std.proofs.lemmas.Map.Views.{any-filter_same}
 use Rattle.std.proofs.lemmas.Slice.Eq.{bytes_eq-Decides}
-use Rattle.tree77.specs.Typing.{first_seen, code_names, stmt_names}
-use Rattle.tree77.specs.Plain.{code_of, stmt_of}
+use Rattle.tree77.specs.Typing.{first_seen, expr_names, code_names, stmt_names}
+use Rattle.tree77.specs.Plain.{expr_of, code_of, stmt_of}
+use Rattle.tree77.specs.declared.tree.BinaryOp.{BinaryOp}
+use Rattle.tree77.specs.declared.tree.Expr.{Expr}
+use Rattle.tree77.specs.declared.tree.Expr.TheVariants.{Binary}
 use Rattle.tree77.specs.declared.tree.Item77.{Item77}
+use Rattle.tree77.proofs.Plains.{expr_binary}
 use Rattle.modern_cli.specs.Names.{with_name, with_names}
 
 abbrev differs : List ℕ → List ℕ → Bool
@@ -112,6 +116,24 @@ seen_all xs (y ∷ ys) =
 -- all names, added one after another
 pub seen : (xs : List (List ℕ)) → with_names [] xs ≡ first_seen xs
 seen xs = seen_all [] xs
+
+-- ---- the names of two operands
+
+-- the names of an expression with two operands
+pub names_both : (e left right : Expr) (op : BinaryOp) → e ≡ Binary op left right
+    → expr_names (expr_of e) ≡ expr_names (expr_of left) ++ expr_names (expr_of right)
+names_both e left right op is = ap (λ x. expr_names (expr_of x)) is ∙ ap expr_names (expr_binary op left right)
+
+-- the names of one operand are added, and then those of the other
+pub added_both : (start one : List (List ℕ)) (e a b left right : Expr) (op : BinaryOp)
+    → e ≡ Binary op left right → a ≡ left → b ≡ right → one ≡ with_names start (expr_names (expr_of a))
+    → with_names one (expr_names (expr_of b)) ≡ with_names start (expr_names (expr_of e))
+added_both start one e a b left right op is same_left same_right before =
+    ap (λ names. with_names names (expr_names (expr_of b))) before
+    ∙ ap (λ x. with_names (with_names start (expr_names (expr_of x))) (expr_names (expr_of b))) same_left
+    ∙ ap (λ x. with_names (with_names start (expr_names (expr_of left))) (expr_names (expr_of x))) same_right
+    ∙ sym (fold-append with_name start (expr_names (expr_of left)) (expr_names (expr_of right)))
+    ∙ ap (λ names. with_names start names) (sym (names_both e left right op is))
 
 -- ---- the names of items
 

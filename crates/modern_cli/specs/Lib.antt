@@ -14,3 +14,6 @@ pub mod Answers
 pub mod Printed
 pub mod Views
 pub mod Stored
+pub mod Operands
+pub mod Statements
+pub mod ShortLines

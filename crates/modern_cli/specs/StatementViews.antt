@@ -3,21 +3,23 @@ use Rattle.std.specs.Prelude.{List, Option, None}
 use Rattle.std.specs.Option.{option_map}
 use Rattle.text_base.specs.Cards.{Card}
 use Rattle.text_base.specs.declared.refusal.Place.{Place}
-use Rattle.text_base.specs.Trees.{assign, int, name}
+use Rattle.text_base.specs.Trees.{assign, stop, name}
 use Rattle.tree77.specs.Spelling as s
 use Rattle.tree77.specs.Tree.{Code, item}
-use Rattle.tree77.specs.Plain.{stmt_of, code_of}
+use Rattle.tree77.specs.Plain.{expr_of, stmt_of, code_of}
 use Rattle.tree77.specs.Reading.{Items, ended_at}
 use Rattle.tree77.specs.declared.tree.Item77.{Item77}
 use Rattle.tree77.specs.declared.tree.EndIf.{EndIf}
 use Rattle.modern_cli.specs.declared.unit_reader.Step.{Step}
 use Rattle.modern_cli.specs.declared.unit_reader.Step.TheVariants.{Item, Last, Other}
 use Rattle.modern_cli.specs.declared.statement.Statement.{Statement}
-use Rattle.modern_cli.specs.declared.statement.Statement.TheVariants.{Program, Assign, End}
+use Rattle.modern_cli.specs.declared.statement.Statement.TheVariants.{Program, Assign, Continue, Stop, End}
 
 abbrev pub statement_of : Statement → s.Statement
 statement_of (Program x) = s.program x
-statement_of (Assign x v) = s.action (assign (name x) (int v))
+statement_of (Assign x e) = s.action (assign (name x) (expr_of e))
+statement_of Continue = s.continue
+statement_of Stop = s.action stop
 statement_of End = s.end
 
 -- a list with its END, as its plain parts

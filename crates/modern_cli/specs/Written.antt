@@ -8,13 +8,11 @@ use Rattle.tree90.specs.Tree as free
 use Rattle.tree90.specs.Tree.{Declared, integer_object, FreeUnit, FreeProgram}
 use Rattle.modern_cli.specs.MapText.{MapLine, home_text}
 
-abbrev pub written_stmt : source.Stmt → free.Stmt
-written_stmt (source.simple a) = free.simple a
-
--- statement for statement
+-- statement for statement; a CONTINUE is left out
 abbrev pub written_code : source.Code → free.Code
 written_code source.done = free.done
-written_code (source.item label here s rest) = free.item (written_stmt s) (written_code rest)
+written_code (source.item label here (source.simple a) rest) = free.item (free.simple a) (written_code rest)
+written_code (source.item label here source.continue rest) = written_code rest
 
 -- a main program with its variables by first appearance
 abbrev pub written_unit : SourceUnit → FreeUnit

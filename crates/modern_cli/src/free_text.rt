@@ -1,13 +1,15 @@
 // The text of a Fortran 90 program.
-ghost use Rattle.std.specs.Prelude.{◌≡◌, ◌*◌, ◌++◌, min, map, flat_map, replicate, IfOk, OnOk};
+ghost use Rattle.std.specs.Prelude.{◌≡◌, ◌*◌, ◌++◌, codes, min, map, flat_map, replicate, IfOk, OnOk};
 ghost use Rattle.std.specs.Fmt.{signed_decimal};
 ghost use Rattle.tree90.specs.Tree.{done};
-ghost use Rattle.tree90.specs.Plain.{expr_of, action_of, stmt_of, stmts_before, code_of, object_of, declared_of, unit_of, program_of};
-ghost use Rattle.tree90.specs.Printed.{line, expr_text, action_text, stmt_text, code_text, declared_text, unit_text, printed};
+ghost use Rattle.tree90.specs.Plain.{unary_of, binary_of, expr_of, action_of, stmt_of, stmts_before, code_of, object_of, declared_of, unit_of, program_of};
+ghost use Rattle.tree90.specs.Printed.{line, sign_text, operator_text, expr_text, action_text, stmt_text, code_text, declared_text, unit_text, printed};
 
 use std::alloc::{AllocError, Global};
 use text_base::{Bytes, Name};
-use tree90::{Declared90, Expr90, Item90, Program90, Simple90, Stmt90, Type90, Unit90};
+use tree90::{
+    Binary90, Declared90, Expr90, Item90, Program90, Simple90, Stmt90, Type90, Unary90, Unit90,
+};
 
 /// The one text of the program. It fails for want of memory alone.
 pub fn program_text(alloc: Global, program: &Program90) -> Result<Bytes, AllocError>
@@ -118,15 +120,45 @@ fn write_simple(alloc: Global, out: &mut Bytes, simple: &Simple90) -> Result<(),
             out.extend(b" = ")?;
             write_expr(alloc, out, value)
         }
+        Simple90::Stop => out.extend(b"STOP"),
     }
 }
 
+#[tactic(auto, using(tree90::proofs::Plains::equations))]
 fn write_expr(alloc: Global, out: &mut Bytes, expr: &Expr90) -> Result<(), AllocError>
     ensures { OnOk result (out.new ≡ out.old ++ expr_text (expr_of expr.now)) }
 {
     match expr {
         Expr90::Int(value) => write_integer(alloc, out, *value),
         Expr90::Name(name) => out.extend(name.as_slice()),
+        Expr90::Unary(sign, operand) => {
+            write_sign(out, *sign)?;
+            write_expr(alloc, out, operand.get())
+        }
+        Expr90::Binary(operator, left, right) => {
+            write_expr(alloc, out, left.get())?;
+            write_operator(out, *operator)?;
+            write_expr(alloc, out, right.get())
+        }
+    }
+}
+
+fn write_sign(out: &mut Bytes, sign: Unary90) -> Result<(), AllocError>
+    ensures { OnOk result (out.new ≡ out.old ++ sign_text (unary_of sign)) }
+{
+    match sign {
+        Unary90::Plus => out.push(b'+'),
+        Unary90::Minus => out.push(b'-'),
+    }
+}
+
+/// Appends the operator between blanks.
+fn write_operator(out: &mut Bytes, operator: Binary90) -> Result<(), AllocError>
+    ensures { OnOk result (out.new ≡ out.old ++ codes " " ++ operator_text (binary_of operator) ++ codes " ") }
+{
+    match operator {
+        Binary90::Plus => out.extend(b" + "),
+        Binary90::Minus => out.extend(b" - "),
     }
 }
 

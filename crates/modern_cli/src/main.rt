@@ -3,7 +3,9 @@
 
 mod answers;
 mod convert;
+mod expression;
 mod free_text;
+mod laws;
 mod lines;
 mod map;
 mod memory;
@@ -19,6 +21,7 @@ mod words;
 mod writing;
 mod written;
 
+pub use laws::written_lines_are_short;
 pub use memory::in_memory;
 pub use status::Status;
 use std::env;

@@ -1,49 +1,25 @@
 // Reads one statement from its characters.
-ghost use Rattle.std.specs.Prelude.{◌≡◌, ℕ, ◌<◌, ◌==◌, length, codes, pos, position, IfOk, IfSome};
-ghost use Rattle.std.specs.List.{list_all, position_from};
+ghost use Rattle.std.specs.Prelude.{◌≡◌, ◌<◌, ◌==◌, length, IfOk, IfSome};
+ghost use Rattle.std.specs.List.{position_from};
 ghost use Rattle.std.specs.Option.{option_map};
-ghost use Rattle.text_base.specs.Chars.{is_digit, without_blanks};
-ghost use Rattle.tree77.specs.Reading.{read_constant, read_assign, read_header, read_word, read_statement};
+ghost use Rattle.text_base.specs.Chars.{to_upper, characters};
+ghost use Rattle.tree77.specs.Reading.{read_assign, read_header, read_continue, read_stop, read_word, read_statement};
 ghost use Rattle.modern_cli.specs.StatementViews.{statement_of};
 
+use crate::expression::expression;
 use std::alloc::{AllocError, Global};
 use text_base::{Bytes, Name};
+use tree77::Expr;
 
-/// The greatest integer constant.
-const GREATEST: u64 = 2_147_483_647;
-
-/// A statement by itself: PROGRAM with its name, an assignment with its variable and its constant, or END.
+/// A statement by itself: PROGRAM with its name, an assignment with its variable and its expression, CONTINUE,
+/// STOP or END.
 #[derive(Debug, Drop)]
 pub enum Statement {
     Program(Name),
-    Assign(Name, i32),
+    Assign(Name, Expr),
+    Continue,
+    Stop,
     End,
-}
-
-fn is_digit(byte: u8) -> bool
-    ensures { result ≡ is_digit byte }
-{
-    48 <= byte && byte <= 57
-}
-
-// The value of an integer constant. There is none where a character is no digit, or the value is too great.
-fn constant(digits: &[u8]) -> Option<i32>
-    ensures { result ≡ option_map pos (read_constant digits.now) }
-{
-    let mut value: u64 = 0;
-    for digit in digits {
-        if !is_digit(*digit) {
-            return None;
-        }
-        value = value * 10 + u64::from(*digit - 48);
-        if value > GREATEST {
-            return None;
-        }
-    }
-    if digits.is_empty() {
-        return None;
-    }
-    Some(value as i32)
 }
 
 fn assignment(alloc: Global, variable: &[u8], value: &[u8]) -> Result<Option<Statement>, AllocError>
@@ -52,7 +28,7 @@ fn assignment(alloc: Global, variable: &[u8], value: &[u8]) -> Result<Option<Sta
     if !Name::is_name(variable) {
         return Ok(None);
     }
-    let Some(value) = constant(value) else {
+    let Some(value) = expression(alloc, value)? else {
         return Ok(None);
     };
     let variable = Name::from_slice(alloc, variable)?;
@@ -69,6 +45,25 @@ fn header(alloc: Global, word: &[u8], name: &[u8]) -> Result<Option<Statement>, 
     Ok(None)
 }
 
+fn continue_word(alloc: Global, text: &[u8]) -> Result<Option<Statement>, AllocError>
+    ensures { IfOk result (λ s. option_map statement_of s ≡ read_continue text.now) }
+{
+    if text == b"CONTINUE".as_slice() {
+        return Ok(Some(Statement::Continue));
+    }
+    let (word, name) = text.split_at(text.len().min(7));
+    header(alloc, word, name)
+}
+
+fn stop_word(alloc: Global, text: &[u8]) -> Result<Option<Statement>, AllocError>
+    ensures { IfOk result (λ s. option_map statement_of s ≡ read_stop text.now) }
+{
+    if text == b"STOP".as_slice() {
+        return Ok(Some(Statement::Stop));
+    }
+    continue_word(alloc, text)
+}
+
 // A statement without an equals sign.
 fn word(alloc: Global, text: &[u8]) -> Result<Option<Statement>, AllocError>
     ensures { IfOk result (λ s. option_map statement_of s ≡ read_word text.now) }
@@ -76,8 +71,7 @@ fn word(alloc: Global, text: &[u8]) -> Result<Option<Statement>, AllocError>
     if text == b"END".as_slice() {
         return Ok(Some(Statement::End));
     }
-    let (word, name) = text.split_at(text.len().min(7));
-    header(alloc, word, name)
+    stop_word(alloc, text)
 }
 
 fn equals_sign(text: &[u8]) -> Option<usize>
@@ -102,14 +96,24 @@ pub fn spelled(alloc: Global, text: &[u8]) -> Result<Option<Statement>, AllocErr
     }
 }
 
-/// The characters with the blanks left out.
-pub fn without_blanks(alloc: Global, text: &[u8]) -> Result<Bytes, AllocError>
-    ensures { IfOk result (λ made. made ≡ without_blanks text.now) }
+fn to_upper(byte: u8) -> u8
+    ensures { result ≡ to_upper byte }
+{
+    if 97 <= byte && byte <= 122 {
+        byte - 32
+    } else {
+        byte
+    }
+}
+
+/// The characters of a statement as they are read: blanks left out, lower-case letters as upper case.
+pub fn characters(alloc: Global, text: &[u8]) -> Result<Bytes, AllocError>
+    ensures { IfOk result (λ made. made ≡ characters text.now) }
 {
     let mut made = Bytes::new(alloc);
     for byte in text {
         if *byte != b' ' {
-            made.push(*byte)?;
+            made.push(to_upper(*byte))?;
         }
     }
     Ok(made)

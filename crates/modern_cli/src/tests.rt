@@ -116,8 +116,6 @@ fn a_failing_sink_cuts_the_text(rt: HostRuntime) -> Result<(), Fail> {
     Ok(())
 }
 
-// From here on the tests want the body of `convert`: with the stub every conversion answers `Memory`.
-
 #[test]
 fn a_file_is_converted(rt: HostRuntime) -> Result<(), Fail> {
     let alloc = rt.alloc();
@@ -165,23 +163,93 @@ fn a_failing_write_ends_the_writing(rt: HostRuntime) -> Result<(), Fail> {
 }
 
 #[test]
+fn sources_are_converted(rt: HostRuntime) -> Result<(), Fail> {
+    let alloc = rt.alloc();
+    // The source, what is written, and its map.
+    let cases: [(&[u8], &[u8], &[u8]); 6] = [
+        (
+            b"      PROGRAM T\n      I = 1\n      J = I + 2 - 5\n      STOP\n      END\n",
+            b"PROGRAM T\n  IMPLICIT NONE\n  SAVE\n  INTEGER :: I\n  INTEGER :: J\n  I = 1\n  J = I + 2 - 5\n  STOP\nEND PROGRAM T\n",
+            b"T.I 0 1 I T:I 1\nT.J 0 1 I T:J 1\n",
+        ),
+        (
+            b"      PROGRAM T\n      I = -2147483647 - 1\n      END\n",
+            b"PROGRAM T\n  IMPLICIT NONE\n  SAVE\n  INTEGER :: I\n  I = -2147483647 - 1\nEND PROGRAM T\n",
+            b"T.I 0 1 I T:I 1\n",
+        ),
+        // the variable of the left side stands first in the text
+        (
+            b"      PROGRAM T\n      J = I\n      END\n",
+            b"PROGRAM T\n  IMPLICIT NONE\n  SAVE\n  INTEGER :: J\n  INTEGER :: I\n  J = I\nEND PROGRAM T\n",
+            b"T.J 0 1 I T:J 1\nT.I 0 1 I T:I 1\n",
+        ),
+        // blanks inside names, constants and keywords
+        (
+            b"      P R O G R A M T\n      I J = + 0 0 1 2\n      C O N T I N U E\n      S T O P\n      E N D\n",
+            b"PROGRAM T\n  IMPLICIT NONE\n  SAVE\n  INTEGER :: IJ\n  IJ = +12\n  STOP\nEND PROGRAM T\n",
+            b"T.IJ 0 1 I T:IJ 1\n",
+        ),
+        // lower and mixed case
+        (
+            b"      program t\n      Next=next-K\n      stop\n      Stop\n      Continue\n      end\n",
+            b"PROGRAM T\n  IMPLICIT NONE\n  SAVE\n  INTEGER :: NEXT\n  INTEGER :: K\n  NEXT = NEXT - K\n  STOP\n  STOP\nEND PROGRAM T\n",
+            b"T.NEXT 0 1 I T:NEXT 1\nT.K 0 1 I T:K 1\n",
+        ),
+        (
+            b"      PROGRAM T\n      CONTINUE\n      END\n",
+            b"PROGRAM T\n  IMPLICIT NONE\n  SAVE\nEND PROGRAM T\n",
+            b"",
+        ),
+    ];
+    for (source, text, map) in cases {
+        let words = words_of(alloc, &["one", "t.f", "o"])?;
+        let mut shelf = MemoryShelf::new(alloc);
+        shelf.hold("t.f", source)?;
+        let mut out = MemorySink::new(alloc, 2);
+        let status = modern(alloc, &words, &mut shelf, &mut out);
+        assert_eq!(rt; status, Status::Done);
+        assert_eq!(rt; out.bytes(), REPORT);
+        assert!(rt; shelf.held("o") == Some(text));
+        assert!(rt; shelf.held("o.map") == Some(map));
+        assert!(rt; shelf.held("o.report") == Some(REPORT));
+    }
+    Ok(())
+}
+
+#[test]
 fn what_is_no_source_is_refused(rt: HostRuntime) -> Result<(), Fail> {
     let alloc = rt.alloc();
-    let cases: [&[u8]; 8] = [
-        // a lower-case letter
-        b"      PROGRAM T\n      i = 1\n      END\n",
+    let cases: [&[u8]; 20] = [
         // a line of 73 bytes
         b"      PROGRAM T\n      I = 1                                                              \n      END\n",
         // no END
         b"      PROGRAM T\n      I = 1\n",
-        // a variable that isn't an integer
+        // END twice, and a statement after END
+        b"      PROGRAM T\n      I = 1\n      END\n      END\n",
+        b"      PROGRAM T\n      END\n      I = 1\n",
+        // a variable that isn't an integer, on either side
         b"      PROGRAM T\n      A = 1\n      END\n",
-        // a variable of the program's name
+        b"      PROGRAM T\n      I = A\n      END\n",
+        // a variable of the program's name, on either side
         b"      PROGRAM I\n      I = 1\n      END\n",
+        b"      PROGRAM I\n      J = I\n      END\n",
         // a constant past the integers
         b"      PROGRAM T\n      I = 2147483648\n      END\n",
+        b"      PROGRAM T\n      I = J - 2147483648\n      END\n",
         // a name of 32 letters
         b"      PROGRAM T\n      IIIIIIIIIIIIIIIIIIIIIIIIIIIIIIII = 1\n      END\n",
+        // two operators together, parentheses, another operator
+        b"      PROGRAM T\n      I = 2 + -3\n      END\n",
+        b"      PROGRAM T\n      I = (1)\n      END\n",
+        b"      PROGRAM T\n      J = I * 2\n      END\n",
+        // a missing side
+        b"      PROGRAM T\n      I =\n      END\n",
+        b"      PROGRAM T\n      = 1\n      END\n",
+        // a code of STOP, and a label
+        b"      PROGRAM T\n      STOP 1\n      END\n",
+        b"      PROGRAM T\n   10 CONTINUE\n      END\n",
+        // an operator at the end
+        b"      PROGRAM T\n      I = 1 +\n      END\n",
         // nothing
         b"",
     ];

@@ -1,8 +1,8 @@
 // Whether the names of a unit are integer variables.
 ghost use Rattle.std.specs.Prelude.{◌≡◌};
 ghost use Rattle.std.specs.List.{list_all};
-ghost use Rattle.tree77.specs.Plain.{expr_of, action_of, stmt_of, unit_of};
-ghost use Rattle.tree77.specs.Typing.{is_integer_name, is_variable, expr_names, action_names, stmt_names, is_typed};
+ghost use Rattle.tree77.specs.Plain.{expr_of, stmt_of_simple, stmt_of, unit_of};
+ghost use Rattle.tree77.specs.Typing.{is_integer_name, is_variable, expr_names, stmt_names, is_typed};
 
 use text_base::Name;
 use tree77::{Body77, Expr, Stmt77, Unit77};
@@ -22,22 +22,29 @@ fn is_variable(unit: &Name, name: &Name) -> bool
     is_integer_name(name.as_slice()) && unit.as_slice() != name.as_slice()
 }
 
+#[tactic(auto, using(tree77::proofs::Plains::equations))]
 fn is_expr_typed(unit: &Name, expr: &Expr) -> bool
     ensures { result ≡ list_all (is_variable unit.now) (expr_names (expr_of expr.now)) }
 {
     match expr {
         Expr::Int(_) => true,
         Expr::Name(name) => is_variable(unit, name),
+        Expr::Unary(_, operand) => is_expr_typed(unit, operand.get()),
+        Expr::Binary(_, left, right) => {
+            is_expr_typed(unit, left.get()) && is_expr_typed(unit, right.get())
+        }
     }
 }
 
 fn is_statement_typed(unit: &Name, statement: &Stmt77) -> bool
-    ensures { result ≡ list_all (is_variable unit.now) (action_names (action_of statement.now)) }
+    ensures { result ≡ list_all (is_variable unit.now) (stmt_names (stmt_of_simple statement.now)) }
 {
     match statement {
         Stmt77::Assign(variable, value) => {
             is_expr_typed(unit, variable) && is_expr_typed(unit, value)
         }
+        Stmt77::Continue => true,
+        Stmt77::Stop => true,
     }
 }
 

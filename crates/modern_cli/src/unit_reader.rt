@@ -2,16 +2,14 @@
 ghost use Rattle.std.specs.Prelude.{◌≡◌, List, Option, map, IfOk};
 ghost use Rattle.std.specs.Option.{option_map, option_and_then};
 ghost use Rattle.text_base.specs.Cards as form;
-ghost use Rattle.text_base.specs.Chars.{without_blanks};
-ghost use Rattle.text_base.specs.Trees.{assign, name, int};
+ghost use Rattle.text_base.specs.Chars.{characters};
 ghost use Rattle.card_reader.specs.Views.{card_of};
-ghost use Rattle.tree77.specs.Tree as tree;
-ghost use Rattle.tree77.specs.Plain.{stmt_of, unit_of};
+ghost use Rattle.tree77.specs.Plain.{stmt_of_simple, stmt_of, unit_of};
 ghost use Rattle.tree77.specs.Reading as reading;
 ghost use Rattle.tree77.specs.Reading.{join_items, read_statement, read_items, read_unit};
 ghost use Rattle.modern_cli.specs.StatementViews.{statement_of, items_of, adds};
 
-use crate::statement::{Statement, spelled, without_blanks};
+use crate::statement::{Statement, characters, spelled};
 use card_reader::Card;
 use sqlite_items::Items;
 use std::alloc::{AllocError, Global};
@@ -19,22 +17,21 @@ use text_base::{Name, Place};
 use tree77::{Body77, EndIf, Expr, Item77, Items77, Stmt77, Unit77, UnitKind};
 
 fn card_statement(alloc: Global, card: &Card) -> Result<Option<Statement>, AllocError>
-    ensures { IfOk result (λ s. option_map statement_of s ≡ read_statement (without_blanks card.now.text)) }
+    ensures { IfOk result (λ s. option_map statement_of s ≡ read_statement (characters card.now.text)) }
 {
-    let characters = without_blanks(alloc, card.text.as_slice())?;
+    let characters = characters(alloc, card.text.as_slice())?;
     spelled(alloc, characters.as_slice())
 }
 
-fn assignment(place: Place, variable: Name, value: i32) -> Item77
+fn item(place: Place, statement: Stmt77) -> Item77
     ensures label { result.label ≡ 0 }
     ensures place { result.place ≡ place }
-    ensures body { stmt_of result.body ≡ tree.simple (assign (name variable) (int value)) }
+    ensures body { stmt_of result.body ≡ stmt_of_simple statement }
 {
-    let assign = Stmt77::Assign(Expr::Name(variable), Expr::Int(value));
     Item77 {
         label: 0,
         place,
-        body: Body77::Simple(assign),
+        body: Body77::Simple(statement),
     }
 }
 
@@ -46,14 +43,18 @@ enum Step {
     Other,
 }
 
+#[tactic(auto, using(tree77::proofs::Plains::equations))]
 fn read_step(alloc: Global, card: &Card) -> Result<Step, AllocError>
     ensures { IfOk result (λ step. (rest : List form.Card) (more : Option reading.Items) → adds step rest more
-        ≡ option_and_then (λ s. join_items (card_of card.now) s rest more) (read_statement (without_blanks card.now.text))) }
+        ≡ option_and_then (λ s. join_items (card_of card.now) s rest more) (read_statement (characters card.now.text))) }
 {
     match card_statement(alloc, card)? {
         Some(Statement::Assign(variable, value)) => {
-            Ok(Step::Item(assignment(card.place, variable, value)))
+            let assign = Stmt77::Assign(Expr::Name(variable), value);
+            Ok(Step::Item(item(card.place, assign)))
         }
+        Some(Statement::Continue) => Ok(Step::Item(item(card.place, Stmt77::Continue))),
+        Some(Statement::Stop) => Ok(Step::Item(item(card.place, Stmt77::Stop))),
         Some(Statement::End) => Ok(Step::Last(EndIf {
             label: 0,
             place: card.place,
@@ -83,7 +84,7 @@ fn read_list(alloc: Global, cards: &[Card]) -> Result<Option<(Items77, EndIf)>, 
     Ok(None)
 }
 
-/// The main program that the cards spell: a PROGRAM statement, assignments, and END. `None` where they spell none.
+/// The main program that the cards spell: a PROGRAM statement, assignments, CONTINUE and STOP, and END. `None` where they spell none.
 pub fn read_cards_unit(alloc: Global, cards: &[Card]) -> Result<Option<Unit77>, AllocError>
     ensures { IfOk result (λ unit. option_map unit_of unit ≡ read_unit (map card_of cards.now)) }
 {

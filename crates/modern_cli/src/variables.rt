@@ -1,7 +1,7 @@
 // The variables of a unit, by first appearance.
 ghost use Rattle.std.specs.Prelude.{◌≡◌, map, IfOk, OnOk};
-ghost use Rattle.tree77.specs.Typing.{variables, expr_names, action_names, stmt_names, code_names};
-ghost use Rattle.tree77.specs.Plain.{expr_of, action_of, stmt_of, code_of, unit_of};
+ghost use Rattle.tree77.specs.Typing.{variables, expr_names, stmt_names, code_names};
+ghost use Rattle.tree77.specs.Plain.{expr_of, stmt_of_simple, stmt_of, code_of, unit_of};
 ghost use Rattle.modern_cli.specs.Names.{with_name, with_names, IsInStep};
 
 use indexmap::IndexSet;
@@ -58,7 +58,7 @@ fn add_body<'a>(alloc: Global, names: &mut Names<'a>, body: &'a Body77) -> Resul
 
 fn add_stmt<'a>(alloc: Global, names: &mut Names<'a>, stmt: &'a Stmt77) -> Result<(), AllocError>
     requires { IsInStep names.old.characters names.old.items }
-    ensures added { OnOk result (names.new.items ≡ with_names names.old.items (action_names (action_of stmt.now))) }
+    ensures added { OnOk result (names.new.items ≡ with_names names.old.items (stmt_names (stmt_of_simple stmt.now))) }
     ensures in_step { OnOk result (IsInStep names.new.characters names.new.items) }
 {
     match stmt {
@@ -66,9 +66,12 @@ fn add_stmt<'a>(alloc: Global, names: &mut Names<'a>, stmt: &'a Stmt77) -> Resul
             add_expr(alloc, names, variable)?;
             add_expr(alloc, names, value)
         }
+        Stmt77::Continue => Ok(()),
+        Stmt77::Stop => Ok(()),
     }
 }
 
+#[tactic(auto, using(tree77::proofs::Plains::equations))]
 fn add_expr<'a>(alloc: Global, names: &mut Names<'a>, expr: &'a Expr) -> Result<(), AllocError>
     requires { IsInStep names.old.characters names.old.items }
     ensures added { OnOk result (names.new.items ≡ with_names names.old.items (expr_names (expr_of expr.now))) }
@@ -77,6 +80,11 @@ fn add_expr<'a>(alloc: Global, names: &mut Names<'a>, expr: &'a Expr) -> Result<
     match expr {
         Expr::Int(_) => Ok(()),
         Expr::Name(name) => add_name(alloc, names, name),
+        Expr::Unary(_, operand) => add_expr(alloc, names, operand.get()),
+        Expr::Binary(_, left, right) => {
+            add_expr(alloc, names, left.get())?;
+            add_expr(alloc, names, right.get())
+        }
     }
 }
 

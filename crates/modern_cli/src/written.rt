@@ -2,17 +2,18 @@
 ghost use Rattle.std.specs.Prelude.{◌≡◌, [], ◌∷◌, map, IfOk};
 ghost use Rattle.tree77.specs.Plain as source;
 ghost use Rattle.tree90.specs.Plain as free;
-ghost use Rattle.tree90.specs.Tree.{done, item, integer_object};
-ghost use Rattle.modern_cli.specs.Written.{written_stmt, written_code, written_unit, written};
+ghost use Rattle.tree90.specs.Tree.{simple, done, item, integer_object};
+ghost use Rattle.modern_cli.specs.Written.{written_code, written_unit, written};
+ghost use Rattle.modern_cli.specs.Statements.{AreWritten};
 
 use crate::variables::variables;
-use sqlite_items::Items;
+use sqlite_items::{Boxed, Items};
 use std::alloc::{AllocError, Global};
 use text_base::Name;
-use tree77::{Body77, Expr, Item77, Program77, Stmt77, Unit77};
+use tree77::{BinaryOp, Body77, Expr, Item77, Program77, Stmt77, UnaryOp, Unit77};
 use tree90::{
-    Declared90, Declared90s, Expr90, Item90, Items90, Program90, Simple90, Stmt90, Type90, Unit90,
-    Unit90s, UnitKind90,
+    Binary90, Declared90, Declared90s, Expr90, Item90, Items90, Program90, Simple90, Stmt90,
+    Stmts90, Type90, Unary90, Unit90, Unit90s, UnitKind90,
 };
 
 /// What is written for the program, statement for statement, with a declaration for each variable of a unit.
@@ -74,37 +75,69 @@ fn written_items(alloc: Global, items: &[Item77]) -> Result<Items90, AllocError>
 fn written_item(alloc: Global, item: &Item77) -> Result<Item90, AllocError>
     ensures { IfOk result (λ made. free.code_of (made ∷ []) ≡ written_code (source.code_of (item.now ∷ []))) }
 {
-    let mut body = Items::new(alloc);
-    let stmt = written_stmt(alloc, &item.body)?;
-    body.push(stmt)?;
-    Ok(Item90 { body })
-}
-
-fn written_stmt(alloc: Global, body: &Body77) -> Result<Stmt90, AllocError>
-    ensures { IfOk result (λ made. free.stmt_of made ≡ written_stmt (source.stmt_of body.now)) }
-{
-    match body {
-        Body77::Simple(stmt) => Ok(Stmt90::Simple(written_simple(alloc, stmt)?)),
+    match &item.body {
+        Body77::Simple(stmt) => Ok(Item90 {
+            body: written_simple(alloc, stmt)?,
+        }),
     }
 }
 
-fn written_simple(alloc: Global, stmt: &Stmt77) -> Result<Simple90, AllocError>
-    ensures { IfOk result (λ made. free.action_of made ≡ source.action_of stmt.now) }
+/// The one statement that is written for this one, or none for a CONTINUE.
+fn written_simple(alloc: Global, stmt: &Stmt77) -> Result<Stmts90, AllocError>
+    ensures { IfOk result (λ made. AreWritten (source.stmt_of_simple stmt.now) (free.stmts_before made done)) }
 {
     match stmt {
         Stmt77::Assign(variable, value) => {
             let variable = written_expr(alloc, variable)?;
             let value = written_expr(alloc, value)?;
-            Ok(Simple90::Assign(variable, value))
+            one_statement(alloc, Simple90::Assign(variable, value))
         }
+        Stmt77::Continue => Ok(Items::new(alloc)),
+        Stmt77::Stop => one_statement(alloc, Simple90::Stop),
     }
 }
 
+fn one_statement(alloc: Global, stmt: Simple90) -> Result<Stmts90, AllocError>
+    ensures { IfOk result (λ made. free.stmts_before made done ≡ item (simple (free.action_of stmt)) done) }
+{
+    let mut made = Items::new(alloc);
+    made.push(Stmt90::Simple(stmt))?;
+    Ok(made)
+}
+
+#[tactic(auto, using(tree77::proofs::Plains::equations, tree90::proofs::Plains::equations))]
 fn written_expr(alloc: Global, expr: &Expr) -> Result<Expr90, AllocError>
     ensures { IfOk result (λ made. free.expr_of made ≡ source.expr_of expr.now) }
 {
     match expr {
         Expr::Int(value) => Ok(Expr90::Int(*value)),
         Expr::Name(name) => Ok(Expr90::Name(name.copy(alloc)?)),
+        Expr::Unary(sign, operand) => {
+            let operand = Boxed::new(alloc, written_expr(alloc, operand.get())?)?;
+            Ok(Expr90::Unary(written_sign(*sign), operand))
+        }
+        Expr::Binary(operator, left, right) => {
+            let left = Boxed::new(alloc, written_expr(alloc, left.get())?)?;
+            let right = Boxed::new(alloc, written_expr(alloc, right.get())?)?;
+            Ok(Expr90::Binary(written_operator(*operator), left, right))
+        }
+    }
+}
+
+fn written_sign(sign: UnaryOp) -> Unary90
+    ensures { free.unary_of result ≡ source.unary_of sign }
+{
+    match sign {
+        UnaryOp::Plus => Unary90::Plus,
+        UnaryOp::Minus => Unary90::Minus,
+    }
+}
+
+fn written_operator(operator: BinaryOp) -> Binary90
+    ensures { free.binary_of result ≡ source.binary_of operator }
+{
+    match operator {
+        BinaryOp::Plus => Binary90::Plus,
+        BinaryOp::Minus => Binary90::Minus,
     }
 }

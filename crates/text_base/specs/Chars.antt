@@ -1,5 +1,5 @@
 -- Characters, as bytes.
-use Rattle.std.specs.Prelude.{ℕ, Bool, not, ◌&&◌, ◌||◌, ◌==◌, nat_le, List, length, filter, slice_index}
+use Rattle.std.specs.Prelude.{ℕ, ◌-◌, Bool, map, if◌then◌else◌, not, ◌&&◌, ◌||◌, ◌==◌, nat_le, List, length, filter, slice_index}
 use Rattle.std.specs.List.{list_all}
 
 -- A to Z
@@ -19,6 +19,14 @@ is_name_byte c = is_upper c || is_digit c || c == 95
 abbrev pub is_name : List ℕ → Bool
 is_name text = is_upper (slice_index text 0) && (list_all is_name_byte text && nat_le (length text) 31)
 
+-- lower-case letters are read as upper case
+abbrev pub to_upper : ℕ → ℕ
+to_upper c = if nat_le 97 c && nat_le c 122 then c - 32 else c
+
 -- blanks don't count in a statement (X3.9 section 3.1.6)
 abbrev pub without_blanks : List ℕ → List ℕ
 without_blanks text = filter (λ c. not (c == 32)) text
+
+-- the characters of a statement as they are read
+abbrev pub characters : List ℕ → List ℕ
+characters text = map to_upper (without_blanks text)

@@ -8,5 +8,6 @@ pub mod Memory
 pub mod Refusing
 pub mod Trees
 pub mod Values
+pub mod Operations
 pub mod Runs
 pub mod Evaluation

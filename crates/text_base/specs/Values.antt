@@ -25,5 +25,7 @@ integer_in (holds_logical b) = None
 pub data RunFault : Type 0 where
   -- a place is read that holds no value of the type
   Undefined : RunFault
+  -- the result of an operation is out of the range of integers
+  Overflow : RunFault
   -- what is defined is an expression and no variable
   ExpressionDefined : RunFault

@@ -1,2 +1,4 @@
+pub mod Plains
+pub mod ExpressionReading
 pub mod StatementReading
 pub mod SourceReading

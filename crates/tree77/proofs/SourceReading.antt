@@ -3,10 +3,11 @@ use Rattle.std.proofs.Common.{◌≡◌, ℕ, Bool, true, false, List, [], ◌�
 use Rattle.std.specs.Prelude.{if◌then◌else◌}
 use Rattle.std.specs.Option.{option_map, option_and_then}
 use Rattle.text_base.specs.Cards.{Card, cards, is_readable}
-use Rattle.text_base.specs.Chars.{without_blanks}
+use Rattle.text_base.specs.Chars.{characters}
 use Rattle.text_base.specs.declared.refusal.Place.{Place}
 use Rattle.tree77.specs.Tree.{simple, Code, done, item, SourceUnit, SourceProgram}
-use Rattle.tree77.specs.Spelling.{Statement, program, action, end}
+use Rattle.tree77.specs.Tree as tree
+use Rattle.tree77.specs.Spelling.{Statement, program, action, continue, end, Spells}
 use Rattle.tree77.specs.Typing.{is_typed}
 use Rattle.tree77.specs.Source.{SpellsItems, SpellsUnit, IsSource}
 use Rattle.tree77.specs.Reading.{read_statement, Items, join_items, read_items, unit_with, read_unit, typed_unit, read_source}
@@ -34,8 +35,11 @@ mapped (Some x) f y e = record { from = x; was = refl; is = cc }
 -- ---- lists
 
 join_spelled : (card : Card) (s : Statement) (rest : List Card) (more : Option Items) (r : Items) → ((q : Items) → more ≡ Some q → SpellsItems rest q.0 q.1)
-    → read_statement (without_blanks card.text) ≡ Some s → join_items card s rest more ≡ Some r → SpellsItems (card ∷ rest) r.0 r.1
+    → read_statement (characters card.text) ≡ Some s → join_items card s rest more ≡ Some r → SpellsItems (card ∷ rest) r.0 r.1
 join_spelled card (program x) rest more r follows was e = absurd cc
+join_spelled card continue rest more r follows was e =
+    let m = mapped more (λ (q : Items). (item 0 card.place tree.continue q.0, q.1)) r e in
+    subst (λ (q : Items). SpellsItems (card ∷ rest) q.0 q.1) m.is (is_spelled _ continue was, refl, refl, follows m.from m.was)
 join_spelled card end [] more r follows was e =
     let same : ◌≡◌ {A = Items} (done, card.place) r = cc in
     subst (λ (q : Items). SpellsItems (card ∷ []) q.0 q.1) same (is_spelled _ end was, refl, refl)
@@ -47,7 +51,7 @@ join_spelled card (action a) rest more r follows was e =
 items_spelled : (cs : List Card) (r : Items) → read_items cs ≡ Some r → SpellsItems cs r.0 r.1
 items_spelled [] r e = absurd cc
 items_spelled (card ∷ rest) r e =
-    let w = went (read_statement (without_blanks card.text)) (λ s. join_items card s rest (read_items rest)) r e in
+    let w = went (read_statement (characters card.text)) (λ s. join_items card s rest (read_items rest)) r e in
     join_spelled card w.from rest (read_items rest) r (λ q is. items_spelled rest q is) w.was w.is
 
 items_read : (cs : List Card) (code : Code) (last : Place) → SpellsItems cs code last → read_items cs ≡ Some (code, last)
@@ -62,21 +66,26 @@ items_read (card ∷ rest) (item label here (simple a) more) last s =
     ap (option_and_then (λ t. join_items card t rest (read_items rest))) (is_read _ (action a) s.0)
     ∙ ap (option_map (λ (r : Items). (item 0 card.place (simple a) r.0, r.1))) (items_read rest more last s.3)
     ∙ (λ i. Some (item (sym s.1 i) (sym s.2 i) (simple a) more, last))
+items_read (card ∷ rest) (item label here tree.continue more) last s =
+    ap (option_and_then (λ t. join_items card t rest (read_items rest))) (is_read _ continue s.0)
+    ∙ ap (option_map (λ (r : Items). (item 0 card.place tree.continue r.0, r.1))) (items_read rest more last s.3)
+    ∙ (λ i. Some (item (sym s.1 i) (sym s.2 i) tree.continue more, last))
 
 -- ---- units
 
 unit_with_spelled : (card : Card) (rest : List Card) (s : Statement) (items : Option Items) (u : SourceUnit) → ((r : Items) → items ≡ Some r → SpellsItems rest r.0 r.1)
-    → read_statement (without_blanks card.text) ≡ Some s → unit_with card s items ≡ Some u → SpellsUnit (card ∷ rest) u
+    → read_statement (characters card.text) ≡ Some s → unit_with card s items ≡ Some u → SpellsUnit (card ∷ rest) u
 unit_with_spelled card rest (program x) items u follows was e =
     let m = mapped items (λ (r : Items). record { name = x; place = card.place; code = r.0; end = r.1 }) u e in
     subst (SpellsUnit (card ∷ rest)) m.is (is_spelled _ (program x) was, refl, follows m.from m.was)
 unit_with_spelled card rest (action a) items u follows was e = absurd cc
+unit_with_spelled card rest continue items u follows was e = absurd cc
 unit_with_spelled card rest end items u follows was e = absurd cc
 
 unit_spelled : (cs : List Card) (u : SourceUnit) → read_unit cs ≡ Some u → SpellsUnit cs u
 unit_spelled [] u e = absurd cc
 unit_spelled (card ∷ rest) u e =
-    let w = went (read_statement (without_blanks card.text)) (λ s. unit_with card s (read_items rest)) u e in
+    let w = went (read_statement (characters card.text)) (λ s. unit_with card s (read_items rest)) u e in
     unit_with_spelled card rest w.from (read_items rest) u (λ r is. items_spelled rest r is) w.was w.is
 
 unit_read : (cs : List Card) (u : SourceUnit) → SpellsUnit cs u → read_unit cs ≡ Some u

@@ -1,26 +1,17 @@
 -- The statement that is read is the one that is spelled.
-use Rattle.std.proofs.Common.{◌≡◌, ℕ, suc, ◌+◌, ◌<◌, ◌≤◌, ◌==◌, Bool, true, false, not, cond, ◌&&◌, List, [], ◌∷◌, ◌++◌, length, take, drop, codes, Option, Some, None, pos, refl, sym, ap, ◌∙◌, subst, arith, take-append-drop, le-leb}
+use Rattle.std.proofs.Common.{◌≡◌, ◌≢◌, ℕ, zero, suc, ◌+◌, ◌<◌, ◌≤◌, ◌==◌, Bool, true, false, not, cond, ◌&&◌, ◌||◌, IsTrue, List, [], ◌∷◌, ◌++◌, length, take, drop, codes, Option, Some, None, refl, sym, ap, ◌∙◌, subst, arith, length-append, take-append-drop}
 use Rattle.std.specs.Prelude.{nat_le, slice_index, if◌then◌else◌}
 use Rattle.std.specs.List.{list_all, position_from}
 use Rattle.std.specs.Option.{option_map}
 use Rattle.std.specs.Str.{bytes_eq}
-use Rattle.std.specs.Str.Parse.{digits_value}
-use Rattle.std.proofs.lemmas.Grind.{common_steps}
-use Rattle.std.proofs.lemmas.Bool.{eqb-true, leb-true, not-true}
-use Rattle.std.proofs.lemmas.List.{take_at}
+use Rattle.std.proofs.lemmas.Bool.{eqb-true, not-true}
+use Rattle.std.proofs.lemmas.List.{take_at, drop_at}
 use Rattle.std.proofs.lemmas.Slice.Eq.{bytes_eq-Decides}
-use Rattle.text_base.specs.Chars.{is_upper, is_digit, is_name_byte, is_name}
-use Rattle.text_base.specs.Trees.{assign, int, name}
-use Rattle.tree77.specs.Spelling.{Statement, program, action, end, IsConstant, Spells, spells_program, spells_assign, spells_end}
-use Rattle.tree77.specs.Reading.{is_constant, read_constant, read_assign, read_header, read_word, read_parts, read_statement}
-
-pub both_true : (a b : Bool) → (a && b) ≡ true → (a ≡ true) × (b ≡ true)
-both_true true b e = (refl, e)
-both_true false b e = absurd cc
-
-pub true_both : (a b : Bool) → a ≡ true → b ≡ true → (a && b) ≡ true
-true_both true b e f = f
-true_both false b e f = e
+use Rattle.text_base.specs.Chars.{is_upper, is_name_byte, is_name}
+use Rattle.text_base.specs.Trees.{Expr, name, assign, stop}
+use Rattle.tree77.specs.Spelling.{Statement, program, action, continue, end, SpellsExpr, Spells, spells_program, spells_assign, spells_continue, spells_stop, spells_end}
+use Rattle.tree77.specs.Reading.{read_expr, read_assign, read_header, read_word, read_parts, read_statement}
+use Rattle.tree77.proofs.ExpressionReading.{both_true, true_both, expr_read, expr_spelled}
 
 pub same_bytes : (a b : List ℕ) → bytes_eq a b ≡ true → a ≡ b
 same_bytes a b e = grind (arith, bytes_eq-Decides)
@@ -83,55 +74,45 @@ all_append : (p : ℕ → Bool) (x y : List ℕ) → list_all p x ≡ true → l
 all_append p [] y e f = f
 all_append p (c ∷ x) y e f = let parts = both_true (p c) (list_all p x) e in true_both (p c) (list_all p (x ++ y)) parts.0 (all_append p x y parts.1 f)
 
--- ---- constants
-
-constant_is : (u : List ℕ) → is_constant u ≡ true → IsConstant u (digits_value 10 u)
-constant_is u e =
-    let some = both_true (not (length u == 0)) (list_all is_digit u && nat_le (digits_value 10 u) 2147483647) e in
-    let digits = both_true (list_all is_digit u) (nat_le (digits_value 10 u) 2147483647) some.1 in
-    record { some = not_empty u some.0; digits = digits.0; is = refl; within = leb-true _ _ digits.1 }
-  where
-    not_empty : (u : List ℕ) → not (length u == 0) ≡ true → 0 < length u
-    not_empty [] e = absurd cc
-    not_empty (c ∷ u) e = omega arith
-
-is_the_constant : (u : List ℕ) (v : ℕ) → IsConstant u v → read_constant u ≡ Some v
-is_the_constant u v c =
-    let within : digits_value 10 u ≤ 2147483647 = omega (arith, c.is, c.within) in
-    let test = true_both _ _ (not_empty u c.some) (true_both _ _ c.digits (le-leb _ _ within)) in
-    ap (λ b. if b then Some (digits_value 10 u) else None) test ∙ ap Some (sym c.is)
-  where
-    not_empty : (u : List ℕ) → 0 < length u → not (length u == 0) ≡ true
-    not_empty [] lt = absurd (omega arith)
-    not_empty (c ∷ u) lt = grind (arith, common_steps)
-
 -- ---- statements
 
 assign_spelled : (x u t : List ℕ) (s : Statement) → t ≡ x ++ 61 ∷ u → read_assign x u ≡ Some s → Spells t s
 assign_spelled x u t s whole e = go (is_name x) refl e
   where
-    with_value : (b : Bool) → is_constant u ≡ b → is_name x ≡ true → option_map (λ v. action (assign (name x) (int (pos v)))) (if b then Some (digits_value 10 u) else None) ≡ Some s → Spells t s
-    with_value true is named e = let same : action (assign (name x) (int (pos (digits_value 10 u)))) ≡ s = cc in spells_assign whole named (constant_is u is) (sym same)
-    with_value false is named e = absurd cc
+    with_value : (o : Option Expr) → read_expr u ≡ o → is_name x ≡ true → option_map (λ v. action (assign (name x) v)) o ≡ Some s → Spells t s
+    with_value None is named e = absurd cc
+    with_value (Some v) is named e = let same : action (assign (name x) v) ≡ s = cc in spells_assign whole named (expr_spelled u v is) (sym same)
 
-    go : (b : Bool) → is_name x ≡ b → (if b then option_map (λ v. action (assign (name x) (int (pos v)))) (read_constant u) else None) ≡ Some s → Spells t s
-    go true is e = with_value (is_constant u) refl is e
+    go : (b : Bool) → is_name x ≡ b → (if b then option_map (λ v. action (assign (name x) v)) (read_expr u) else None) ≡ Some s → Spells t s
+    go true is e = with_value (read_expr u) refl is e
     go false is e = absurd cc
 
-word_spelled : (t : List ℕ) (s : Statement) → read_word t ≡ Some s → Spells t s
-word_spelled t s e = go (bytes_eq t (codes "END")) refl e
+header_spelled : (t : List ℕ) (s : Statement) → read_header (take 7 t) (drop 7 t) ≡ Some s → Spells t s
+header_spelled t s e = go (bytes_eq (take 7 t) (codes "PROGRAM") && is_name (drop 7 t)) refl e
   where
-    header : (b : Bool) → (bytes_eq (take 7 t) (codes "PROGRAM") && is_name (drop 7 t)) ≡ b → (if b then Some (program (drop 7 t)) else None) ≡ Some s → Spells t s
-    header true is e =
+    go : (b : Bool) → (bytes_eq (take 7 t) (codes "PROGRAM") && is_name (drop 7 t)) ≡ b → (if b then Some (program (drop 7 t)) else None) ≡ Some s → Spells t s
+    go true is e =
         let parts = both_true (bytes_eq (take 7 t) (codes "PROGRAM")) (is_name (drop 7 t)) is in
         let whole : t ≡ codes "PROGRAM" ++ drop 7 t = sym (take-append-drop 7 t) ∙ ap (λ (x : List ℕ). x ++ drop 7 t) (same_bytes _ _ parts.0) in
         let same : program (drop 7 t) ≡ s = cc in
         spells_program whole parts.1 (sym same)
-    header false is e = absurd cc
+    go false is e = absurd cc
 
-    go : (b : Bool) → bytes_eq t (codes "END") ≡ b → (if b then Some end else read_header (take 7 t) (drop 7 t)) ≡ Some s → Spells t s
-    go true is e = let same : end ≡ s = cc in spells_end (same_bytes _ _ is) (sym same)
-    go false is e = header (bytes_eq (take 7 t) (codes "PROGRAM") && is_name (drop 7 t)) refl e
+word_spelled : (t : List ℕ) (s : Statement) → read_word t ≡ Some s → Spells t s
+word_spelled t s e = ends (bytes_eq t (codes "END")) refl e
+  where
+    continues : (b : Bool) → bytes_eq t (codes "CONTINUE") ≡ b → (if b then Some continue else read_header (take 7 t) (drop 7 t)) ≡ Some s → Spells t s
+    continues true is e = let same : continue ≡ s = cc in spells_continue (same_bytes _ _ is) (sym same)
+    continues false is e = header_spelled t s e
+
+    stops : (b : Bool) → bytes_eq t (codes "STOP") ≡ b → (if b then Some (action stop) else (if bytes_eq t (codes "CONTINUE") then Some continue else read_header (take 7 t) (drop 7 t))) ≡ Some s → Spells t s
+    stops true is e = let same : action stop ≡ s = cc in spells_stop (same_bytes _ _ is) (sym same)
+    stops false is e = continues (bytes_eq t (codes "CONTINUE")) refl e
+
+    ends : (b : Bool) → bytes_eq t (codes "END") ≡ b
+        → (if b then Some end else (if bytes_eq t (codes "STOP") then Some (action stop) else (if bytes_eq t (codes "CONTINUE") then Some continue else read_header (take 7 t) (drop 7 t)))) ≡ Some s → Spells t s
+    ends true is e = let same : end ≡ s = cc in spells_end (same_bytes _ _ is) (sym same)
+    ends false is e = stops (bytes_eq t (codes "STOP")) refl e
 
 -- what is read is spelled
 pub is_spelled : (t : List ℕ) (s : Statement) → read_statement t ≡ Some s → Spells t s
@@ -155,18 +136,20 @@ is_read t s (spells_program {x} whole named is) =
     ∙ ap (read_parts (codes "PROGRAM" ++ x)) none
     ∙ ap (λ b. if b then Some (program x) else None) named
     ∙ ap Some (sym is)
-is_read t s (spells_assign {x} {u} {v} whole named constant is) =
+is_read t s (spells_assign {x = x} {u = u} {e = v} whole named value is) =
     let at = found_at x u 0 (name_has_no_equals x named) in
     let front : take (0 + length x) (x ++ 61 ∷ u) ≡ x = take_at x (61 ∷ u) (0 + length x) (omega arith) in
     let back : drop (0 + length x + 1) (x ++ 61 ∷ u) ≡ u = behind x u (0 + length x + 1) (omega arith) in
     ap (λ y. read_parts y (position_from is_equals 0 y)) whole
     ∙ ap (read_parts (x ++ 61 ∷ u)) at
     ∙ (λ j. read_assign (front j) (back j))
-    ∙ ap (λ b. if b then option_map (λ v. action (assign (name x) (int (pos v)))) (read_constant u) else None) named
-    ∙ ap (option_map (λ v. action (assign (name x) (int (pos v))))) (is_the_constant u v constant)
+    ∙ ap (λ b. if b then option_map (λ e. action (assign (name x) e)) (read_expr u) else None) named
+    ∙ ap (option_map (λ e. action (assign (name x) e))) (expr_read u v value)
     ∙ ap Some (sym is)
   where
     behind : (x u : List ℕ) (n : ℕ) → n ≡ length x + 1 → drop n (x ++ 61 ∷ u) ≡ u
     behind [] u n e = ap (λ k. drop k (61 ∷ u)) e
     behind (c ∷ x) u n e = let k : n ≡ suc (length x + 1) = omega (arith, e) in ap (λ m. drop m (c ∷ (x ++ 61 ∷ u))) k ∙ behind x u (length x + 1) refl
 is_read t s (spells_end whole is) = ap (λ y. read_parts y (position_from is_equals 0 y)) whole ∙ ap Some (sym is)
+is_read t s (spells_stop whole is) = ap (λ y. read_parts y (position_from is_equals 0 y)) whole ∙ ap Some (sym is)
+is_read t s (spells_continue whole is) = ap (λ y. read_parts y (position_from is_equals 0 y)) whole ∙ ap Some (sym is)

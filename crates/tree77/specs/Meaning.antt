@@ -6,7 +6,7 @@ use Rattle.text_base.specs.Runs.{Final, ended, fault, Out, gives, over, bind, cl
 use Rattle.text_base.specs.Evaluation.{Memory, Call}
 use Rattle.text_base.specs.Evaluation as e
 use Rattle.text_base.specs.declared.refusal.Place.{Place}
-use Rattle.tree77.specs.Tree.{Stmt, simple, Code, done, item, SourceUnit, SourceProgram}
+use Rattle.tree77.specs.Tree.{Stmt, simple, continue, Code, done, item, SourceUnit, SourceProgram}
 use Rattle.tree77.specs.Layout.{Layout, Entity, layout_of, numeric_count, text_count, numeric_place, entity_named}
 
 -- the numeric places and the character places of all sequences
@@ -32,6 +32,8 @@ tagged layout unit = record {
 -- what one line of the list does
 pub data Op : Type 0 where
   act : Action → Op
+  -- a line that is no step
+  pass : Op
 
 -- one line, with its label, the number of loops that it stands in, and its place
 pub data Line : Type 0 where
@@ -40,6 +42,7 @@ pub data Line : Type 0 where
 -- the lines of a list, before the lines that follow it
 abbrev pub stmt_lines : Stmt → ℕ → Place → ℕ → List Line → List Line
 stmt_lines (simple a) label here depth rest = line label depth here (act a) ∷ rest
+stmt_lines continue label here depth rest = line label depth here pass ∷ rest
 
 abbrev pub lines : Code → ℕ → List Line → List Line
 lines done depth rest = rest
@@ -63,6 +66,7 @@ module _ (memory : Memory Store) (call : Call Store) where
   -- one line
   abbrev pub perform : Op → Place → Go → List Open → ℕ → Store → Out Store (Unit {0})
   perform (act a) here go loops n w = bind (e.action memory call here a n w) (proceed go loops)
+  perform pass here go loops n w = go 0 loops n w
 
   -- The lines from here on, of which the first may be passed over. The END of the unit is counted.
   abbrev pub from : List Line → ℕ → List Open → ℕ → Store → Out Store (Unit {0})

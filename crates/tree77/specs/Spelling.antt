@@ -3,12 +3,13 @@ use Rattle.std.specs.Prelude.{◌≡◌, ℕ, ◌<◌, ◌≤◌, IsTrue, List, 
 use Rattle.std.specs.List.{list_all}
 use Rattle.std.specs.Str.Parse.{digits_value}
 use Rattle.text_base.specs.Chars.{is_digit, is_name}
-use Rattle.text_base.specs.Trees.{Action, assign, int, name}
+use Rattle.text_base.specs.Trees.{UnaryOp, plus, minus, BinaryOp, add, subtract, Expr, int, name, unary, binary, Action, assign, stop}
 
 -- a statement by itself
 pub data Statement : Type 0 where
   program : List ℕ → Statement
   action : Action → Statement
+  continue : Statement
   end : Statement
 
 -- an integer constant: digits, with any number of leading zeros (X3.9 section 4.3.1)
@@ -18,11 +19,34 @@ pub record IsConstant (text : List ℕ) (value : ℕ) : Type 0 where
   pub is : value ≡ digits_value 10 text
   pub within : value ≤ 2147483647
 
+-- an operand of a sum: a constant or a variable
+pub data SpellsOperand (text : List ℕ) (e : Expr) : Type 0 where
+  spells_constant : {v : ℕ} → IsConstant text v → e ≡ int (pos v) → SpellsOperand text e
+  spells_variable : IsTrue (is_name text) → e ≡ name text → SpellsOperand text e
+
+-- the two signs
+pub data IsSign (c : ℕ) : UnaryOp → Type 0 where
+  is_plus : c ≡ 43 → IsSign c plus
+  is_minus : c ≡ 45 → IsSign c minus
+
+pub data IsOperator (c : ℕ) : BinaryOp → Type 0 where
+  is_add : c ≡ 43 → IsOperator c add
+  is_subtract : c ≡ 45 → IsOperator c subtract
+
+-- An arithmetic expression: an operand, which may have a sign, or an expression, an operator and an operand, so that
+-- operators group from the left and a sign belongs to the first operand (X3.9 section 6.1.2).
+pub data SpellsExpr : List ℕ → Expr → Type 0 where
+  spells_operand : {text : List ℕ} {e : Expr} → SpellsOperand text e → SpellsExpr text e
+  spells_signed : {text : List ℕ} {e : Expr} {c : ℕ} {u : List ℕ} {op : UnaryOp} {a : Expr} → text ≡ c ∷ u → IsSign c op → SpellsOperand u a → e ≡ unary op a → SpellsExpr text e
+  spells_sum : {text : List ℕ} {e : Expr} {t u : List ℕ} {c : ℕ} {op : BinaryOp} {a b : Expr} → text ≡ t ++ c ∷ u → IsOperator c op → SpellsExpr t a → SpellsOperand u b → e ≡ binary op a b → SpellsExpr text e
+
 -- the characters spell the statement
 pub data Spells (text : List ℕ) (s : Statement) : Type 0 where
   -- PROGRAM and a name (X3.9 section 14.1)
   spells_program : {x : List ℕ} → text ≡ codes "PROGRAM" ++ x → IsTrue (is_name x) → s ≡ program x → Spells text s
-  -- a variable, an equals sign and a constant (X3.9 section 10.1)
-  spells_assign : {x u : List ℕ} {v : ℕ} → text ≡ x ++ 61 ∷ u → IsTrue (is_name x) → IsConstant u v → s ≡ action (assign (name x) (int (pos v))) → Spells text s
-  -- END (X3.9 section 11.14)
+  -- a variable, an equals sign and an expression (X3.9 section 10.1)
+  spells_assign : {x u : List ℕ} {e : Expr} → text ≡ x ++ 61 ∷ u → IsTrue (is_name x) → SpellsExpr u e → s ≡ action (assign (name x) e) → Spells text s
+  -- CONTINUE, STOP and END (X3.9 sections 11.11, 11.12 and 11.14)
+  spells_continue : text ≡ codes "CONTINUE" → s ≡ continue → Spells text s
+  spells_stop : text ≡ codes "STOP" → s ≡ action stop → Spells text s
   spells_end : text ≡ codes "END" → s ≡ end → Spells text s

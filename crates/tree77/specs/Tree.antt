@@ -6,6 +6,8 @@ use Rattle.text_base.specs.declared.refusal.Place.{Place}
 -- an executable statement
 pub data Stmt : Type 0 where
   simple : Action → Stmt
+  -- CONTINUE
+  continue : Stmt
 
 -- a list of executable statements, each with its label, 0 where it has none, and its place
 pub data Code : Type 0 where

@@ -4,7 +4,8 @@
 mod laws;
 mod tree;
 
-pub use laws::{one_program, reading_is_spelling};
+pub use laws::{one_program, reading_is_spelling, reading_operands};
 pub use tree::{
-    Body77, EndIf, Expr, Item77, Items77, Program77, Stmt77, Unit77, UnitKind, Units77,
+    BinaryOp, Body77, EndIf, Expr, Item77, Items77, Program77, Stmt77, UnaryOp, Unit77, UnitKind,
+    Units77,
 };

@@ -1,18 +1,37 @@
 // The tree of a FORTRAN 77 program.
-use sqlite_items::Items;
+use sqlite_items::{Boxed, Items};
 use text_base::{Name, Place};
 
-/// An expression (X3.9 section 6): an integer constant or a variable.
+/// A sign (X3.9 section 6.1).
+#[derive(Clone, Copy, Debug, PartialEq, Eq)]
+pub enum UnaryOp {
+    Plus,
+    Minus,
+}
+
+/// An operator between two operands (X3.9 section 6.1).
+#[derive(Clone, Copy, Debug, PartialEq, Eq)]
+pub enum BinaryOp {
+    Plus,
+    Minus,
+}
+
+/// An expression (X3.9 section 6): an integer constant, a variable, a signed operand, a sum or a difference.
 #[derive(Debug, Drop)]
 pub enum Expr {
     Int(i32),
     Name(Name),
+    Unary(UnaryOp, Boxed<Expr>),
+    Binary(BinaryOp, Boxed<Expr>, Boxed<Expr>),
 }
 
-/// A simple statement: an assignment has the variable and the expression (X3.9 section 10.1).
+/// A simple statement: an assignment has the variable and the expression (X3.9 section 10.1); CONTINUE
+/// (section 11.11) and STOP (section 11.12) have nothing.
 #[derive(Debug, Drop)]
 pub enum Stmt77 {
     Assign(Expr, Expr),
+    Continue,
+    Stop,
 }
 
 /// What stands in an item of a list.

@@ -2,19 +2,31 @@
 -- has more than 132 characters, so none is continued.
 use Rattle.std.specs.Prelude.{ℕ, ◌*◌, List, [], ◌∷◌, ◌++◌, min, replicate, codes, flat_map}
 use Rattle.std.specs.Fmt.{signed_decimal}
-use Rattle.text_base.specs.Trees.{Expr, int, name, Action, assign}
+use Rattle.text_base.specs.Trees.{UnaryOp, plus, minus, BinaryOp, add, subtract, Expr, int, name, unary, binary, Action, assign, stop}
 use Rattle.tree90.specs.Tree.{Stmt, simple, Code, done, item, Declared, integer_object, FreeUnit, FreeProgram}
 
 -- a line has two blanks for each level, at most 60, and ends with LF
 abbrev pub line : ℕ → List ℕ → List ℕ
 line level text = replicate (min (2 * level) 60) 32 ++ text ++ 10 ∷ []
 
+abbrev pub sign_text : UnaryOp → List ℕ
+sign_text plus = codes "+"
+sign_text minus = codes "-"
+
+abbrev pub operator_text : BinaryOp → List ℕ
+operator_text add = codes "+"
+operator_text subtract = codes "-"
+
+-- binary operators stand between blanks, signs have none
 abbrev pub expr_text : Expr → List ℕ
 expr_text (int v) = signed_decimal v
 expr_text (name x) = x
+expr_text (unary op a) = sign_text op ++ expr_text a
+expr_text (binary op a b) = expr_text a ++ codes " " ++ operator_text op ++ codes " " ++ expr_text b
 
 abbrev pub action_text : Action → List ℕ
 action_text (assign d e) = expr_text d ++ codes " = " ++ expr_text e
+action_text stop = codes "STOP"
 
 abbrev pub stmt_text : ℕ → Stmt → List ℕ
 stmt_text level (simple a) = line level (action_text a)

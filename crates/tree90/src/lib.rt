@@ -4,6 +4,6 @@
 mod tree;
 
 pub use tree::{
-    Declared90, Declared90s, Expr90, Item90, Items90, Program90, Simple90, Stmt90, Stmts90, Type90,
-    Unit90, Unit90s, UnitKind90,
+    Binary90, Declared90, Declared90s, Expr90, Item90, Items90, Program90, Simple90, Stmt90,
+    Stmts90, Type90, Unary90, Unit90, Unit90s, UnitKind90,
 };

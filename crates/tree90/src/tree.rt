@@ -1,18 +1,36 @@
 // The tree of a Fortran 90 program.
-use sqlite_items::Items;
+use sqlite_items::{Boxed, Items};
 use text_base::Name;
 
-/// An expression (ISO/IEC 1539:1991 section 7.1): an integer constant or a variable.
+/// A sign (ISO/IEC 1539:1991 section 7.1.1).
+#[derive(Clone, Copy, Debug, PartialEq, Eq)]
+pub enum Unary90 {
+    Plus,
+    Minus,
+}
+
+/// An operator between two operands (section 7.1.1).
+#[derive(Clone, Copy, Debug, PartialEq, Eq)]
+pub enum Binary90 {
+    Plus,
+    Minus,
+}
+
+/// An expression (section 7.1): an integer constant, a variable, a signed operand, a sum or a difference.
 #[derive(Debug, Drop)]
 pub enum Expr90 {
     Int(i32),
     Name(Name),
+    Unary(Unary90, Boxed<Expr90>),
+    Binary(Binary90, Boxed<Expr90>, Boxed<Expr90>),
 }
 
-/// A simple statement: an assignment has the variable and the expression (section 7.5.1).
+/// A simple statement: an assignment has the variable and the expression (section 7.5.1); STOP (section 8.4)
+/// has nothing.
 #[derive(Debug, Drop)]
 pub enum Simple90 {
     Assign(Expr90, Expr90),
+    Stop,
 }
 
 /// An executable statement or construct.
@@ -24,7 +42,7 @@ pub enum Stmt90 {
 /// A list of statements, which contracts see as the list.
 pub type Stmts90 = Items<Stmt90>;
 
-/// The statements that stand for one item of a source list.
+/// The statements that stand for one item of a source list: none for a CONTINUE.
 #[derive(Debug, Drop)]
 pub struct Item90 {
     pub body: Stmts90,

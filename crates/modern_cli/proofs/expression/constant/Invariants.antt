@@ -2,7 +2,7 @@ use Rattle.std.proofs.Common.{◌≡◌, ◌≤◌, drop}
 use Rattle.std.specs.List.{list_all}
 use Rattle.std.specs.Str.Parse.{digits_value, digits_value_after}
 use Rattle.text_base.specs.Chars.{is_digit}
-use Rattle.modern_cli.proofs.statement.constant.Given as goal
+use Rattle.modern_cli.proofs.expression.constant.Given as goal
 
 -- what is left goes on from the value so far
 abbrev pub invariant-loop-digit : goal.invariant-loop-digit

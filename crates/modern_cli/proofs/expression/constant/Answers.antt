@@ -3,7 +3,7 @@ use Rattle.std.specs.Str.Parse.{digits_value_after}
 use Rattle.std.proofs.lemmas.List.{at_drop_more}
 use Rattle.text_base.specs.Chars.{is_digit}
 use Rattle.modern_cli.proofs.Constants.{too_great}
-use Rattle.modern_cli.proofs.statement.constant.Goals as goal
+use Rattle.modern_cli.proofs.expression.constant.Goals as goal
 
 pub returns-then-value-gt-GREATEST : goal.returns-then-value-gt-GREATEST
 returns-then-value-gt-GREATEST c =
