@@ -1,12 +1,10 @@
--- Lines as they are cut off, and the cards of the lines so far and of what is left.
-use Rattle.std.proofs.Common.{◌≡◌, ℕ, suc, ◌+◌, ◌-◌, ◌<◌, ◌≤◌, ◌==◌, Bool, true, false, not, cond, unwrap_or, Some, None, List, [], ◌∷◌, ◌++◌, length, take, drop, replicate, refl, ap, append_assoc, map, arith, nat_lt}
-use Rattle.std.proofs.lemmas.List.{map-append, take-take}
+-- Lines as they are cut off, and the field of a statement.
+use Rattle.std.proofs.Common.{◌≡◌, ℕ, suc, ◌+◌, ◌-◌, ◌<◌, ◌≤◌, ◌==◌, Bool, true, false, not, cond, unwrap_or, Some, None, List, [], ◌∷◌, ◌++◌, length, take, drop, replicate, refl, ap, arith, nat_lt}
+use Rattle.std.proofs.lemmas.List.{take-take}
 use Rattle.std.proofs.lemmas.List.Sums.{prefix_len-le-length}
 use Rattle.std.proofs.lemmas.Bool.Decides.{nat_tests}
 use Rattle.std.specs.List.{position, position_or_len}
-use Rattle.text_base.specs.Cards.{cut, with_first, cards_of, statement_field}
-use Rattle.card_reader.specs.Views.{card_of}
-use Rattle.card_reader.specs.declared.card.Card.{Card}
+use Rattle.text_base.specs.Cards.{cut, with_first}
 
 -- a byte that ends a line
 abbrev pub is_feed : ℕ → Bool
@@ -43,10 +41,6 @@ pub cut_first : (l : List ℕ) → 0 < length l → cut l ≡ take (position_or_
 cut_first [] some = absurd (omega arith)
 cut_first (c ∷ []) some = cut_one c (c == 10)
 cut_first (c ∷ (d ∷ t)) some = cut_more c (d ∷ t) (position_or_len is_feed (d ∷ t)) (cut_first (d ∷ t) (omega arith)) (c == 10)
-
--- one more card, and the cards of one line fewer
-pub one_more : (file line : ℕ) (cards : List Card) (card : Card) (l : List ℕ) (ls : List (List ℕ)) → card.text ≡ statement_field l → card.place ≡ record { file = file; line = line } → map card_of (cards ++ card ∷ []) ++ cards_of file (line + 1) ls ≡ map card_of cards ++ cards_of file line (l ∷ ls)
-one_more file line cards card l ls text place = rw (map-append card_of cards (card ∷ []), append_assoc, text, place) refl
 
 -- a text cut at 66 and filled up, where it was cut at 66 before
 pub padded : (all items : List ℕ) (n : ℕ) → items ≡ take 66 all → n ≡ length (take 66 all) → take 66 items ++ replicate (66 - n) 32 ≡ take 66 all ++ replicate (66 - length (take 66 all)) 32

@@ -1,13 +1,15 @@
 // What a file was read into.
 ghost use Rattle.std.specs.Prelude.{◌≡◌};
 
-use crate::{Card, Cards};
+use crate::{Card, Cards, Comment, Comments};
 use std::marker::Model;
 
-/// What a file was read into: its statements (X3.9 section 3) in order. Contracts see a record of them.
+/// What a file was read into: its statements (X3.9 section 3) in order, and its comments (X3.9 section
+/// 3.2.1) in order. Contracts see a record of them.
 #[derive(Debug, Drop)]
 pub struct Deck {
     statements: Cards,
+    comments: Comments,
 }
 
 impl Model for Deck {
@@ -15,15 +17,19 @@ impl Model for Deck {
 
     ghost Value = { Contents };
 
-    ghost view = { λ deck. record { statements = deck.statements } };
+    ghost view = { λ deck. record { statements = deck.statements; comments = deck.comments } };
 }
 
 impl Deck {
-    /// The deck of these statements.
-    pub(crate) fn new(statements: Cards) -> Deck
-        ensures { result.statements ≡ statements }
+    /// The deck of these statements and comments.
+    pub(crate) fn new(statements: Cards, comments: Comments) -> Deck
+        ensures statements { result.statements ≡ statements }
+        ensures comments { result.comments ≡ comments }
     {
-        Deck { statements }
+        Deck {
+            statements,
+            comments,
+        }
     }
 
     /// Lends the statements (X3.9 section 3) in the order of the file.
@@ -31,5 +37,12 @@ impl Deck {
         ensures { result.now ≡ self.now.statements }
     {
         self.statements.as_slice()
+    }
+
+    /// Lends the comments (X3.9 section 3.2.1) in the order of the file.
+    pub fn comments(&self) -> &[Comment]
+        ensures { result.now ≡ self.now.comments }
+    {
+        self.comments.as_slice()
     }
 }

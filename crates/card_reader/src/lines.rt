@@ -1,5 +1,5 @@
 // The lines of a file, and the columns of a line (X3.9 section 3).
-ghost use Rattle.std.specs.Prelude.{◌≡◌, ◌<◌, ◌∷◌, IfOk, length, take, drop, ◌==◌};
+ghost use Rattle.std.specs.Prelude.{◌≡◌, ◌<◌, ◌∷◌, IfOk, length, take, drop, ◌==◌, if◌then◌else◌};
 ghost use Rattle.std.specs.List.{list_all, position, position_or_len};
 ghost use Rattle.text_base.specs.Cards as form;
 
@@ -89,12 +89,47 @@ fn is_blank(line: &[u8]) -> bool
     line.iter().all(|byte| *byte == BLANK)
 }
 
-/// Whether the line is one of a statement without label and continuation: at most 72 characters that
-/// can be printed, of which the first 6 are blank and not all are.
-pub fn is_statement_line(line: &[u8]) -> bool
+/// Whether the line has C, c, * or ! in column 1.
+pub fn is_marked(line: &[u8]) -> bool
+    ensures { result ≡ form.is_marked line.now }
+{
+    match line {
+        [] => false,
+        [mark, ..] => *mark == b'C' || *mark == b'c' || *mark == b'*' || *mark == b'!',
+    }
+}
+
+/// Whether the line is a comment: it has a mark in column 1, or blanks alone or nothing.
+pub fn is_comment(line: &[u8]) -> bool
+    ensures { result ≡ form.is_comment line.now }
+{
+    is_marked(line) || is_blank(line)
+}
+
+/// Whether the line is one of a statement without label and continuation: characters that can be
+/// printed, of which the first 6 are blank.
+fn is_statement_line(line: &[u8]) -> bool
     ensures { result ≡ form.is_statement_line line.now }
 {
-    line.len() <= 72 && are_printable(line) && is_blank(first(6, line)) && !is_blank(line)
+    are_printable(line) && is_blank(first(6, line))
+}
+
+/// Whether the line has at most 72 bytes, and is a comment or one of a statement.
+pub fn is_line(line: &[u8]) -> bool
+    ensures { result ≡ form.is_line line.now }
+{
+    line.len() <= 72 && (is_comment(line) || is_statement_line(line))
+}
+
+/// What stands after column 1 of a marked line, and the whole of another one.
+pub fn comment_text(line: &[u8]) -> &[u8]
+    ensures { result.now ≡ (if form.is_marked line.now then drop 1 line.now else line.now) }
+{
+    if is_marked(line) {
+        behind(1, line)
+    } else {
+        line
+    }
 }
 
 /// Columns 7 to 72 of the line, padded with blanks.

@@ -1,4 +1,4 @@
-use crate::{Card, CardsError, Deck, read_cards};
+use crate::{Card, CardsError, Comment, Deck, read_cards};
 use std::alloc::{AllocError, Global};
 use std::test::Fail;
 use text_base::{Cause, Place, Refusal, Refusals};
@@ -13,11 +13,19 @@ fn texts(alloc: Global, cards: &[Card]) -> Result<Vec<u8>, AllocError> {
     Ok(texts)
 }
 
-fn are_placed(cards: &[Card]) -> bool {
-    let mut line: u32 = 0;
-    for card in cards {
-        line = line.saturating_add(1);
-        if card.text.as_slice().len() != 66 || card.place != (Place { file: 7, line }) {
+// Whether the statements stand on these lines of file 7, each with 66 characters.
+fn are_at(cards: &[Card], lines: &[u32]) -> bool {
+    if cards.len() != lines.len() {
+        return false;
+    }
+    for (card, line) in cards.iter().zip(lines) {
+        if card.text.as_slice().len() != 66
+            || card.place
+                != (Place {
+                    file: 7,
+                    line: *line,
+                })
+        {
             return false;
         }
     }
@@ -27,24 +35,92 @@ fn are_placed(cards: &[Card]) -> bool {
 #[test]
 fn lines_end_at_line_feeds(rt: HostRuntime) -> Result<(), Fail> {
     let alloc = rt.alloc();
-    let cases: [(&[u8], &[u8]); 4] = [
-        (b"", b""),
+    let cases: [(&[u8], &[u8], &[u32]); 4] = [
+        (b"", b"", &[]),
         (
             b"      PROGRAM T\n      I = 7\r\n      END",
             b"PROGRAM T|I = 7|END|",
+            &[1, 2, 3],
         ),
-        (b"      END\r", b"END|"),
+        (b"      END\r", b"END|", &[1]),
         (
             b"             +++++++++1+++++++++2+++++++++3+++++++++4+++++++++5+++++++++",
             b"       +++++++++1+++++++++2+++++++++3+++++++++4+++++++++5+++++++++|",
+            &[1],
+        ),
+    ];
+    for (bytes, wanted, lines) in cases {
+        let deck = read_cards(alloc, 7, bytes)?;
+        let texts = texts(alloc, deck.statements())?;
+        assert_eq!(rt; texts.as_slice(), wanted);
+        assert!(rt; are_at(deck.statements(), lines));
+        assert!(rt; deck.comments().is_empty());
+    }
+    Ok(())
+}
+
+// Whether the comments are these: whether each is marked, its text, and how many statements stand
+// before it.
+fn are_comments(comments: &[Comment], wanted: &[(bool, &[u8], u32)]) -> bool {
+    if comments.len() != wanted.len() {
+        return false;
+    }
+    for (comment, (marked, text, before)) in comments.iter().zip(wanted) {
+        if comment.marked != *marked
+            || comment.text.as_slice() != *text
+            || comment.before != *before
+        {
+            return false;
+        }
+    }
+    true
+}
+
+#[test]
+fn comments_alone(rt: HostRuntime) -> Result<(), Fail> {
+    let alloc = rt.alloc();
+    let cases: [(&[u8], &[(bool, &[u8], u32)]); 6] = [
+        (
+            b"C ONE\n\n* TWO",
+            &[(true, b" ONE", 0), (false, b"", 0), (true, b" TWO", 0)],
+        ),
+        (b"      \r\n\r", &[(false, b"      ", 0), (false, b"", 0)]),
+        (b"!\nc", &[(true, b"", 0), (true, b"", 0)]),
+        (b"*\x01\xff a\rb\r\n", &[(true, b"\x01\xff a\rb", 0)]),
+        (b"CALL F", &[(true, b"ALL F", 0)]),
+        (
+            b"C+++++++++1+++++++++2+++++++++3+++++++++4+++++++++5+++++++++6+++++++++72",
+            &[(
+                true,
+                b"+++++++++1+++++++++2+++++++++3+++++++++4+++++++++5+++++++++6+++++++++72",
+                0,
+            )],
         ),
     ];
     for (bytes, wanted) in cases {
         let deck = read_cards(alloc, 7, bytes)?;
-        let texts = texts(alloc, deck.statements())?;
-        assert_eq!(rt; texts.as_slice(), wanted);
-        assert!(rt; are_placed(deck.statements()));
+        assert!(rt; deck.statements().is_empty());
+        assert!(rt; are_comments(deck.comments(), wanted));
     }
+    Ok(())
+}
+
+#[test]
+fn comments_between_statements(rt: HostRuntime) -> Result<(), Fail> {
+    let alloc = rt.alloc();
+    let bytes = b"!first\n      PROGRAM T\nc\n   \n      I = 7\r\n      END\nC last\n\n";
+    let comments: [(bool, &[u8], u32); 5] = [
+        (true, b"first", 0),
+        (true, b"", 1),
+        (false, b"   ", 1),
+        (true, b" last", 3),
+        (false, b"", 3),
+    ];
+    let deck = read_cards(alloc, 7, bytes)?;
+    let texts = texts(alloc, deck.statements())?;
+    assert_eq!(rt; texts.as_slice(), b"PROGRAM T|I = 7|END|".as_slice());
+    assert!(rt; are_at(deck.statements(), &[2, 5, 6]));
+    assert!(rt; are_comments(deck.comments(), &comments));
     Ok(())
 }
 
@@ -71,12 +147,12 @@ fn is_not_built(refusals: &[Refusal]) -> bool {
 fn other_files_are_refused(rt: HostRuntime) -> Result<(), Fail> {
     let alloc = rt.alloc();
     let cases: [&[u8]; 7] = [
-        b"      END\n\n",
-        b"      END\n      ",
         b"             +++++++++1+++++++++2+++++++++3+++++++++4+++++++++5+++++++++6",
+        b"C+++++++++1+++++++++2+++++++++3+++++++++4+++++++++5+++++++++6+++++++++7++",
+        b"                                                                         ",
         b"      I\t= 7\n",
         b"      I = \x7f\n",
-        b"C     END\n",
+        b" C    END\n",
         b"     1END\n",
     ];
     for bytes in cases {

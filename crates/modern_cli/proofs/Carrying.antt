@@ -1,6 +1,7 @@
 -- What is written for a source does what the source does.
 use Rattle.std.proofs.Common.{◌≡◌, ℕ, ◌≤◌, List, [], ◌∷◌, map, Some, sym, ap, subst}
 use Rattle.std.proofs.lemmas.List.{append-nil}
+use Rattle.text_base.specs.Cards.{Comment, comments}
 use Rattle.text_base.specs.Runs.{Final, going, ended, fault}
 use Rattle.tree77.specs.Tree.{SourceUnit, SourceProgram}
 use Rattle.tree77.specs.Typing.{variables, code_names}
@@ -13,14 +14,14 @@ use Rattle.tree90.specs.Meaning.{Objects, object_of, start90, run90}
 use Rattle.tree90.specs.Meaning as nested
 use Rattle.modern_cli.specs.MapText.{MapLine}
 use Rattle.modern_cli.specs.Match.{IsMap, Matches, DoesTheSame}
-use Rattle.modern_cli.specs.Written.{written, written_unit, map_lines, map_line_of}
+use Rattle.modern_cli.specs.Written.{comments_from, written, written_unit, map_lines, map_line_of}
 use Rattle.modern_cli.proofs.Names.{distinct_first_seen}
 use Rattle.modern_cli.proofs.Placing.{layout_at, one_unit, variables_of_one, layout_of_one}
 use Rattle.modern_cli.proofs.Agreeing.{Agrees, agrees_start}
 use Rattle.modern_cli.proofs.Following.{Alike, follows_unit}
 use Rattle.modern_cli.proofs.Mapping.{map_lines_at, is_map_at, carried_at}
 
-module _ (u : SourceUnit) where
+module _ (cs : List Comment) (u : SourceUnit) where
   abbrev layout : Layout
   layout = layout_at u.name (variables u)
 
@@ -40,27 +41,27 @@ module _ (u : SourceUnit) where
   matches (ended w c) (fault here' kind') a = absurd a
   matches (fault here kind) f a = tt
 
-  start_is : start90 (written (one_unit u)) ≡ map (object_of u.name) (map integer_object (variables u))
+  start_is : start90 (written cs (one_unit u)) ≡ map (object_of u.name) (map integer_object (variables u))
   start_is = append-nil (map (object_of u.name) (map integer_object (variables u)))
 
   -- the written unit follows the source's
-  unit_follows : (n : ℕ) → (m : ℕ) × (n ≤ m) × Matches layout lines (run_main layout (Some u) n) (nested.run_main (start90 (written (one_unit u))) (Some (written_unit u)) m)
+  unit_follows : (n : ℕ) → (m : ℕ) × (n ≤ m) × Matches layout lines (run_main layout (Some u) n) (nested.run_main (start90 (written cs (one_unit u))) (Some (written_unit cs 0 u)) m)
   unit_follows n =
       let agree = subst (Agrees u.name (variables u) (start77 layout)) (sym start_is) (agrees_start u.name (variables u)) in
-      let f = (follows_unit u.name (variables u) flat.no_function nested.no_function u.code n (start77 layout) (start90 (written (one_unit u))) agree).by in
+      let f = (follows_unit u.name (variables u) flat.no_function nested.no_function (comments_from cs 2) u.code 1 n (start77 layout) (start90 (written cs (one_unit u))) agree).by in
       (f.0, f.1, matches _ _ f.2)
 
-  one_does_the_same : DoesTheSame (one_unit u) (written (one_unit u)) (map_lines (one_unit u))
+  one_does_the_same : DoesTheSame (one_unit u) (written cs (one_unit u)) (map_lines (one_unit u))
   one_does_the_same = record {
     is_map = subst (λ (l : Layout). IsMap l (map_lines (one_unit u))) (sym (layout_of_one u)) (subst (IsMap layout) (sym lines_are) (is_map_at u.name (variables u) (distinct_first_seen (code_names u.code))));
     follows = λ n.
         let f = unit_follows n in (
           f.0,
           f.1,
-          subst (λ (l : Layout). Matches l (map_lines (one_unit u)) (run_main l (Some u) n) (run90 (written (one_unit u)) f.0)) (sym (layout_of_one u))
-              (subst (λ (ls : List MapLine). Matches layout ls (run_main layout (Some u) n) (run90 (written (one_unit u)) f.0)) (sym lines_are) f.2),
+          subst (λ (l : Layout). Matches l (map_lines (one_unit u)) (run_main l (Some u) n) (run90 (written cs (one_unit u)) f.0)) (sym (layout_of_one u))
+              (subst (λ (ls : List MapLine). Matches layout ls (run_main layout (Some u) n) (run90 (written cs (one_unit u)) f.0)) (sym lines_are) f.2),
         );
   }
 
-pub does_the_same : (bytes : List ℕ) (p : SourceProgram) → IsSource 0 bytes p → DoesTheSame p (written p) (map_lines p)
-does_the_same bytes p source = subst (λ (q : SourceProgram). DoesTheSame q (written q) (map_lines q)) (sym source.whole) (one_does_the_same source.unit)
+pub does_the_same : (bytes : List ℕ) (p : SourceProgram) → IsSource 0 bytes p → DoesTheSame p (written (comments bytes) p) (map_lines p)
+does_the_same bytes p source = subst (λ (q : SourceProgram). DoesTheSame q (written (comments bytes) q) (map_lines q)) (sym source.whole) (one_does_the_same (comments bytes) source.unit)

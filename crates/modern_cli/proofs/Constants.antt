@@ -9,7 +9,6 @@ use Rattle.std.proofs.lemmas.Grind.{common_steps}
 use Rattle.std.proofs.lemmas.Bool.{leb-true}
 use Rattle.std.proofs.lemmas.Str.{digit_value_digit}
 use Rattle.text_base.specs.Chars.{is_digit}
-use Rattle.tree77.specs.Reading.{is_constant}
 use Rattle.modern_cli.specs.Operands.{constant_value}
 use Rattle.modern_cli.proofs.Names.{both_true}
 

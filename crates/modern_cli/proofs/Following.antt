@@ -1,5 +1,6 @@
 -- The run of the nested list follows the run of the flat one.
-use Rattle.std.proofs.Common.{◌≡◌, ℕ, zero, suc, ◌<◌, ◌≤◌, List, [], Option, Some, None, refl, sym, subst, arith}
+use Rattle.std.proofs.Common.{◌≡◌, ℕ, zero, suc, ◌+◌, ◌<◌, ◌≤◌, List, [], ◌++◌, Option, Some, None, refl, sym, subst, arith}
+use Rattle.text_base.specs.Cards.{Comment}
 use Rattle.text_base.specs.Trees.{Expr, int, name, unary, binary, Action, assign, stop}
 use Rattle.text_base.specs.Values.{Value, integer, RunFault, Undefined, Overflow}
 use Rattle.text_base.specs.Operations.{unary_result, binary_result}
@@ -10,9 +11,10 @@ use Rattle.text_base.specs.declared.refusal.Place.{Place}
 use Rattle.tree77.specs.Tree as source
 use Rattle.tree77.specs.Meaning.{Store, Line, lines, Open, from, proceed}
 use Rattle.tree77.specs.Meaning as flat
+use Rattle.tree90.specs.Tree.{Remark}
 use Rattle.tree90.specs.Meaning.{Objects, untagged, nowhere, next, body, unit_end}
 use Rattle.tree90.specs.Meaning as nested
-use Rattle.modern_cli.specs.Written.{written_code}
+use Rattle.modern_cli.specs.Written.{remarks_at, written_list}
 use Rattle.modern_cli.proofs.Agreeing.{Agrees, memory77, agrees_read, agrees_write}
 
 module _ (home : List ℕ) (names : List (List ℕ)) where
@@ -103,28 +105,29 @@ module _ (home : List ℕ) (names : List (List ℕ)) where
         (follows_eval x m w w' _ _ a (λ i le v v' b value.
         follows_define d value i v v' k k' b (λ h le2 u u' c how. go h (omega arith) u u' c how))))
 
-  -- the lines of a list, and what follows them
-  module _ (call : Call Store) (call' : Call Objects) where
-    follows_body : (c : source.Code) (depth n : ℕ) (rest : List Line) (loops : List Open) (w : Store) (w' : Objects) (k : ℕ → Store → Unit {0} → Final Store) (k' : ℕ → Objects → How → Final Objects)
+  -- the lines of a list, and what follows them, whatever the comments
+  module _ (call : Call Store) (call' : Call Objects) (cs : List Comment) where
+    follows_body : (c : source.Code) (i : ℕ) (left : List Remark) (depth n : ℕ) (rest : List Line) (loops : List Open) (w : Store) (w' : Objects) (k : ℕ → Store → Unit {0} → Final Store) (k' : ℕ → Objects → How → Final Objects)
         → Agrees home names w w'
         → ((m : ℕ) → m ≤ n → (v : Store) (v' : Objects) → Agrees home names v v' → Follows m (close (from (memory77 home names) call rest 0 loops m v) k) (λ j. k' j v' normal))
-        → Follows n (close (from (memory77 home names) call (lines c depth rest) 0 loops n w) k) (λ j. close (body (untagged home) call' (written_code c) j w') k')
-    follows_body source.done depth n rest loops w w' k k' a after = after n (omega arith) w w' a
-    follows_body (source.item label here source.continue more) depth n rest loops w w' k k' a after = follows_body more depth n rest loops w w' k k' a after
-    follows_body (source.item label here (source.simple x) more) depth n rest loops w w' k k' a after =
+        → Follows n (close (from (memory77 home names) call (lines c depth rest) 0 loops n w) k) (λ j. close (body (untagged home) call' (written_list cs i left c).0 j w') k')
+    follows_body source.done i left depth n rest loops w w' k k' a after = after n (omega arith) w w' a
+    follows_body (source.item label here source.continue more) i left depth n rest loops w w' k k' a after =
+        follows_body more (i + 1) (left ++ remarks_at cs i) depth n rest loops w w' k k' a after
+    follows_body (source.item label here (source.simple x) more) i left depth n rest loops w w' k k' a after =
         rebind n (e.action (memory77 home names) call here x n w) (proceed (from (memory77 home names) call (lines more depth rest)) loops) k (λ j. e.action (untagged home) call' nowhere x j w') _ k'
-        (follows_action call call' here x n w w' _ _ a (λ m le v v' b how. step (λ m le v v' b. follows_body more depth m rest loops v v' k k' b (λ i le2 u u' d. after i (omega arith) u u' d)) how m le v v' b))
+        (follows_action call call' here x n w w' _ _ a (λ m le v v' b how. step (λ m le v v' b. follows_body more (i + 1) [] depth m rest loops v v' k k' b (λ i le2 u u' d. after i (omega arith) u u' d)) how m le v v' b))
       where
         step : ((m : ℕ) → m ≤ n → (v : Store) (v' : Objects) → Agrees home names v v'
-            → Follows m (close (from (memory77 home names) call (lines more depth rest) 0 loops m v) k) (λ j. close (body (untagged home) call' (written_code more) j v') k'))
+            → Follows m (close (from (memory77 home names) call (lines more depth rest) 0 loops m v) k) (λ j. close (body (untagged home) call' (written_list cs (i + 1) [] more).0 j v') k'))
             → (how : How) (m : ℕ) → m ≤ n → (v : Store) (v' : Objects) → Agrees home names v v'
-            → Follows m (close (proceed (from (memory77 home names) call (lines more depth rest)) loops m v how) k) (λ j. close (next how (body (untagged home) call' (written_code more)) j v') k')
+            → Follows m (close (proceed (from (memory77 home names) call (lines more depth rest)) loops m v how) k) (λ j. close (next how (body (untagged home) call' (written_list cs (i + 1) [] more).0) j v') k')
         step later normal m le v v' b = later m le v v' b
 
     -- a whole unit, whose END is counted
-    pub follows_unit : (c : source.Code) (n : ℕ) (w : Store) (w' : Objects) → Agrees home names w w'
-        → Follows n (close (from (memory77 home names) call (lines c 0 []) 0 [] n w) flat.stop_at_end) (λ j. close (bind (body (untagged home) call' (written_code c) j w') unit_end) nested.stop_at_end)
-    follows_unit c n w w' a =
-        rebind_second n _ (λ j. body (untagged home) call' (written_code c) j w') unit_end nested.stop_at_end
-        (follows_body c 0 n [] [] w w' flat.stop_at_end (λ j v how. close (unit_end j v how) nested.stop_at_end) a
+    pub follows_unit : (c : source.Code) (i n : ℕ) (w : Store) (w' : Objects) → Agrees home names w w'
+        → Follows n (close (from (memory77 home names) call (lines c 0 []) 0 [] n w) flat.stop_at_end) (λ j. close (bind (body (untagged home) call' (written_list cs i [] c).0 j w') unit_end) nested.stop_at_end)
+    follows_unit c i n w w' a =
+        rebind_second n _ (λ j. body (untagged home) call' (written_list cs i [] c).0 j w') unit_end nested.stop_at_end
+        (follows_body c i [] 0 n [] [] w w' flat.stop_at_end (λ j v how. close (unit_end j v how) nested.stop_at_end) a
         (λ m le v v' b. follows_tick m v v' _ flat.stop_at_end _ nested.stop_at_end b (λ i lt. record { by = (i, omega arith, (b, refl)) })))

@@ -6,14 +6,21 @@ use Rattle.std.specs.Cmp.Lexicographic.{nat_list_cmp_total}
 use Rattle.std.proofs.lemmas.Map.Text.{is_eq-slice_cmp}
 use Rattle.std.proofs.lemmas.Slice.Eq.{bytes_eq-Decides}
 use Rattle.text_base.specs.Files.{Files}
+use Rattle.text_base.specs.Cards.{comments}
 use Rattle.tree77.specs.Tree.{SourceProgram}
 use Rattle.tree77.specs.Source.{IsSource}
+use Rattle.tree90.specs.FreeText.{SpellsText}
+use Rattle.tree90.specs.Proper.{IsProper}
+use Rattle.tree90.proofs.FreeReading.{program_unique}
+use Rattle.tree90.proofs.PrintedLemmas.{printed_is_read}
 use Rattle.modern_cli.specs.Conversion.{program_text, program_map, program_report}
 use Rattle.modern_cli.specs.Written.{written, map_lines}
 use Rattle.modern_cli.specs.Words.{Command, map_name, report_name}
 use Rattle.modern_cli.specs.Outputs.{with_files, outputs}
 use Rattle.modern_cli.specs.FromFile.{FromFile, Converts, Headline}
 use Rattle.modern_cli.proofs.Carrying.{does_the_same}
+use Rattle.modern_cli.proofs.PositionLemmas.{comments_kept}
+use Rattle.modern_cli.proofs.ProperLemmas.{written_is_proper}
 use Rattle.modern_cli.proofs.TopLemmas.{from_more}
 
 -- equal texts pass the test
@@ -43,7 +50,7 @@ get_other files name bytes other differ = get-insert nat_list_cmp_total files na
 module _ (command : Command) (files : Files) (bytes : List ℕ) (p : SourceProgram) (is_source : IsSource 0 bytes p) where
   -- with the text, with the map too, and with the report too
   abbrev with_text : Files
-  with_text = insert files command.out (program_text p)
+  with_text = insert files command.out (program_text bytes p)
 
   abbrev with_map : Files
   with_map = insert with_text (map_name command.out) (program_map p)
@@ -52,11 +59,11 @@ module _ (command : Command) (files : Files) (bytes : List ℕ) (p : SourceProgr
   with_report = insert with_map (report_name command.out) (program_report p)
 
   -- the text stands under its name
-  text_stays : get with_report command.out ≡ Some (program_text p)
+  text_stays : get with_report command.out ≡ Some (program_text bytes p)
   text_stays =
       get_other with_map (report_name command.out) (program_report p) command.out (longer command.out (codes ".report") 6 refl)
       ∙ get_other with_text (map_name command.out) (program_map p) command.out (longer command.out (codes ".map") 3 refl)
-      ∙ get_same files command.out (program_text p)
+      ∙ get_same files command.out (program_text bytes p)
 
   -- the map stands under its name
   map_stays : get with_report (map_name command.out) ≡ Some (program_map p)
@@ -64,20 +71,30 @@ module _ (command : Command) (files : Files) (bytes : List ℕ) (p : SourceProgr
       get_other with_map (report_name command.out) (program_report p) (map_name command.out) (other_length command.out (codes ".map") (codes ".report") 4 2 refl refl)
       ∙ get_same with_text (map_name command.out) (program_map p)
 
+  proper : IsProper (written (comments bytes) p)
+  proper = written_is_proper bytes p is_source
+
+  -- the text is read as the program that is written
+  read : SpellsText (program_text bytes p) (written (comments bytes) p)
+  read = printed_is_read (written (comments bytes) p) proper.writable
+
   -- all outputs stand, and the text is that of a program that does the same
   heads : Headline command bytes with_report
   heads = record {
     source = p;
     is_source = is_source;
-    program = written p;
+    program = written (comments bytes) p;
+    text = program_text bytes p;
     is_text = text_stays;
+    one_reading = record { is_read = read; only = λ other r. program_unique (program_text bytes p) other (written (comments bytes) p) r read; proper = proper };
     lines = map_lines p;
     is_map = map_stays;
     does_the_same = does_the_same bytes p is_source;
+    comments = comments_kept bytes p is_source;
   }
 
 -- where the contents are told
-headline_told : (old : Option Files) (command : Command) (bytes : List ℕ) (p : SourceProgram) → IsSource 0 bytes p → IfSome (with_files (outputs command p) old) (Headline command bytes)
+headline_told : (old : Option Files) (command : Command) (bytes : List ℕ) (p : SourceProgram) → IsSource 0 bytes p → IfSome (with_files (outputs command bytes p) old) (Headline command bytes)
 headline_told None command bytes p is_source = tt
 headline_told (Some files) command bytes p is_source = heads command files bytes p is_source
 

@@ -172,6 +172,7 @@ module _ (home : List ℕ) (names : List (List ℕ)) where
         let l = line_at place.0 line place.1 in
         subst (IsNeeded layout) l.2 (record {
           some = omega arith;
+          from_one = omega arith;
           sequence = place.0;
           named = named_at place.0 l.0 l.1;
           seen = λ o from to. let first : 0 ≡ o = omega arith in subst (λ z. IsSeen layout place.0 z integers) first (seen_own place.0 l.0 l.1);

@@ -7,24 +7,30 @@ use Rattle.std.specs.Str.{bytes_eq}
 use Rattle.std.proofs.lemmas.Slice.Eq.{bytes_eq-Decides}
 use Rattle.tree77.specs.Typing.{first_seen}
 
+-- the test of bytes holds of equal ones alone
 pub same_bytes : (a b : List ℕ) → bytes_eq a b ≡ true → a ≡ b
 same_bytes a b e = grind (arith, bytes_eq-Decides)
 
+-- the test of bytes holds of equal ones
 pub bytes_same : (a b : List ℕ) → a ≡ b → bytes_eq a b ≡ true
 bytes_same a b e = grind (arith, bytes_eq-Decides)
 
+-- the test of bytes fails of others
 pub bytes_differ : (a b : List ℕ) → a ≢ b → bytes_eq a b ≡ false
 bytes_differ a b e = grind (arith, bytes_eq-Decides)
 
+-- both tests hold where their conjunction does
 pub both_true : (a b : Bool) → (a && b) ≡ true → (a ≡ true) × (b ≡ true)
 both_true true b e = (refl, e)
 both_true false b e = absurd cc
 
+-- a conjunction holds where both tests do
 pub true_both : (a b : Bool) → a ≡ true → b ≡ true → (a && b) ≡ true
 true_both true b e f = f
 true_both false b e f = e
 
-not_true : (a : Bool) → not a ≡ true → a ≡ false
+-- a test fails where its negation holds
+pub not_true : (a : Bool) → not a ≡ true → a ≡ false
 not_true true e = absurd cc
 not_true false e = refl
 
@@ -33,7 +39,8 @@ abbrev pub Distinct : List (List ℕ) → Type 0
 Distinct [] = Unit {0}
 Distinct (x ∷ xs) = (list_all (λ y. not (bytes_eq x y)) xs ≡ true) × Distinct xs
 
-all_filtered : (p q : List ℕ → Bool) (xs : List (List ℕ)) → list_all q xs ≡ true → list_all q (filter p xs) ≡ true
+-- what all of some items pass, those that are kept pass
+pub all_filtered : {X : Type 0} (p q : X → Bool) (xs : List X) → list_all q xs ≡ true → list_all q (filter p xs) ≡ true
 all_filtered p q [] e = refl
 all_filtered p q (x ∷ xs) e = let b = both_true (q x) (list_all q xs) e in go (p x) (all_filtered p q xs b.1) b.0
   where
@@ -41,6 +48,7 @@ all_filtered p q (x ∷ xs) e = let b = both_true (q x) (list_all q xs) e in go 
     go true rest here = true_both (q x) (list_all q (filter p xs)) here rest
     go false rest here = rest
 
+-- what is kept passes the test
 passes : (p : List ℕ → Bool) (xs : List (List ℕ)) → list_all p (filter p xs) ≡ true
 passes p [] = refl
 passes p (x ∷ xs) = go (p x) refl (passes p xs)
@@ -49,6 +57,7 @@ passes p (x ∷ xs) = go (p x) refl (passes p xs)
     go true is rest = true_both (p x) (list_all p (filter p xs)) is rest
     go false is rest = rest
 
+-- names of which some are left out are distinct
 distinct_filtered : (p : List ℕ → Bool) (xs : List (List ℕ)) → Distinct xs → Distinct (filter p xs)
 distinct_filtered p [] d = tt
 distinct_filtered p (x ∷ xs) d = go (p x) (distinct_filtered p xs d.1)
@@ -57,6 +66,7 @@ distinct_filtered p (x ∷ xs) d = go (p x) (distinct_filtered p xs d.1)
     go true rest = (all_filtered p (λ y. not (bytes_eq x y)) xs d.0, rest)
     go false rest = rest
 
+-- names by first appearance are distinct
 pub distinct_first_seen : (xs : List (List ℕ)) → Distinct (first_seen xs)
 distinct_first_seen [] = tt
 distinct_first_seen (x ∷ xs) =

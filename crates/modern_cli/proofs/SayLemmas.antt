@@ -19,7 +19,7 @@ module _ (command : Option Command) (old new : Option Files) (unread absent unwr
 
   -- what is printed at a status
   abbrev Printed : Status → Type 0
-  Printed s = Prints s command old unwritten failed denied text
+  Printed s = Prints s command old new unwritten failed denied text
 
   -- the text of a conversion is a report
   report_of : At Done → IsReport command old whole
@@ -32,13 +32,13 @@ module _ (command : Option Command) (old new : Option Files) (unread absent unwr
   put Usage answers all line = subst (λ l. PrintsLine (failed ⊎ denied) l text) answers.2 line
   put ReadFault answers all line = (whole, answers.2, line)
   put Missing answers all line = (whole, answers.3, line)
-  put WriteFault answers all line = inl (answers.0, (whole, answers.2, line))
+  put WriteFault answers all line = inl (answers.0, (whole, answers.1, line))
   put Memory answers all line = inl (subst (λ l. PrintsLine (failed ⊎ denied) l text) answers line)
 
   -- the whole text of a status that isn't printed by a line
-  main_text_of : (wanted : Status) → At wanted → IsMain wanted → IsMainText command old whole
-  main_text_of Done answers main = inl (report_of answers)
-  main_text_of Refused answers main = inr answers.1
+  main_text_of : (wanted : Status) → At wanted → IsMain wanted → IsMainText command old new whole
+  main_text_of Done answers main = inl answers
+  main_text_of Refused answers main = inr answers
   main_text_of Usage answers main = absurd main
   main_text_of ReadFault answers main = absurd main
   main_text_of Missing answers main = absurd main

@@ -6,8 +6,11 @@ use Rattle.std.proofs.lemmas.Bool.{eqb-true, not-true, leb-true}
 use Rattle.std.proofs.lemmas.List.{length-replicate}
 use Rattle.text_base.specs.Cards.{with_first, cut}
 use Rattle.text_base.specs.Chars.{is_upper, is_name_byte, is_name}
-use Rattle.modern_cli.specs.ShortLines.{is_short}
 use Rattle.modern_cli.proofs.Names.{both_true, true_both}
+
+-- a line of 132 characters at most
+abbrev pub is_short : List ℕ → Bool
+is_short l = nat_le (length l) 132
 
 -- text without LF
 abbrev pub has_no_feed : List ℕ → Bool
@@ -75,7 +78,7 @@ short_append {x} {y} e f = record {
 }
 
 -- one line with its LF
-short_line : (text : List ℕ) → has_no_feed text ≡ true → length text ≤ 132 → IsShortLines (text ++ 10 ∷ [])
+pub short_line : (text : List ℕ) → has_no_feed text ≡ true → length text ≤ 132 → IsShortLines (text ++ 10 ∷ [])
 short_line text none few = record {
   before = λ rest e. subst (λ t. list_all is_short (cut t) ≡ true) (sym (append_assoc text (10 ∷ []) rest))
       (subst (λ ls. list_all is_short ls ≡ true) (sym (cut_line text rest none)) (true_both (is_short text) (list_all is_short (cut rest)) (le-leb _ _ few) e));

@@ -7,13 +7,15 @@ use Rattle.std.specs.Str.Parse.{AllDigits, digits_value}
 use Rattle.std.proofs.lemmas.Bool.{leb-true}
 use Rattle.std.proofs.lemmas.Fmt.{decimal_by_steps, length-decimal-le}
 use Rattle.std.proofs.lemmas.Int.Digits.{digits_value-lt}
+use Rattle.std.proofs.lemmas.List.Folds.{list_all-append}
 use Rattle.text_base.specs.Chars.{is_digit, is_name}
 use Rattle.text_base.specs.Trees.{UnaryOp, plus, minus, BinaryOp, add, subtract, Expr, int, name, unary, binary, Action, assign, stop}
-use Rattle.tree77.specs.Spelling.{IsConstant, SpellsOperand, spells_constant, spells_variable, SpellsExpr, spells_operand, spells_signed, spells_sum, Spells, spells_program, spells_assign, spells_continue, spells_stop, spells_end, action, program}
+use Rattle.text_base.specs.Constants.{IsConstant, SpellsOperand, spells_constant, spells_variable}
+use Rattle.tree77.specs.Spelling.{SpellsExpr, spells_operand, spells_signed, spells_sum, Spells, spells_program, spells_assign, spells_continue, spells_stop, spells_end, action, program}
 use Rattle.tree77.specs.Typing.{expr_names, action_names}
 use Rattle.tree90.specs.Printed.{sign_text, operator_text, expr_text, action_text}
+use Rattle.tree90.specs.Proper.{IsOperand, operand_int, operand_name, IsSum, only_operand, signed_operand, sum_of, IsWritableAction, writable_assign, writable_stop}
 use Rattle.modern_cli.proofs.Names.{both_true, true_both}
-use Rattle.modern_cli.proofs.Lists.{list_all-append}
 use Rattle.modern_cli.proofs.Constants.{value_of_digit}
 use Rattle.modern_cli.proofs.ShortPieces.{has_no_feed, no_feed_append, no_feed_name}
 
@@ -34,12 +36,13 @@ digits_are_all (c ∷ u) e =
     let high = leb-true c 57 range.1 in
     (omega (arith, value, high), digits_are_all u parts.1)
 
--- an operand's text has no LF, and is at most as long as its spelling
+-- An operand can be written. Its text has no LF, and is at most as long as its spelling.
 record ShortOperand (u : List ℕ) (e : Expr) : Type 0 where
   some : 0 < length u
   short : length (expr_text e) ≤ length u
   plain : has_no_feed (expr_text e) ≡ true
   named : list_all is_name (expr_names e) ≡ true
+  operand : IsOperand e
 
 -- a constant is written without leading zeros
 constant_is_short : (u : List ℕ) (v : ℕ) → IsConstant u v → ShortOperand u (int (pos v))
@@ -47,11 +50,11 @@ constant_is_short u v c =
     let below : digits_value 10 u < 10 ^ length u = digits_value-lt 10 u (digits_are_all u c.digits) in
     let less : v < 10 ^ length u = subst (λ n. n < 10 ^ length u) (sym c.is) below in
     let within : v < 2 ^ 64 = omega (arith, c.within) in
-    record { some = c.some; short = length-decimal-le (length u) v c.some less within; plain = no_feed_decimal v within; named = refl }
+    record { some = c.some; short = length-decimal-le (length u) v c.some less within; plain = no_feed_decimal v within; named = refl; operand = operand_int c.within }
 
 -- a variable is written as its name
 variable_is_short : (u : List ℕ) → is_name u ≡ true → ShortOperand u (name u)
-variable_is_short u named = record { some = first u named; short = omega arith; plain = no_feed_name u named; named = true_both (is_name u) true named refl }
+variable_is_short u named = record { some = first u named; short = omega arith; plain = no_feed_name u named; named = true_both (is_name u) true named refl; operand = operand_name named }
   where
     first : (u : List ℕ) → is_name u ≡ true → 0 < length u
     first [] e = absurd cc
@@ -62,7 +65,7 @@ operand_is_short : (u : List ℕ) (e : Expr) → SpellsOperand u e → ShortOper
 operand_is_short u e (spells_constant {v} c is) = subst (ShortOperand u) (sym is) (constant_is_short u v c)
 operand_is_short u e (spells_variable named is) = subst (ShortOperand u) (sym is) (variable_is_short u named)
 
--- An expression's text has no LF. Each of its binary operators, of which there are `count`, makes it two characters
+-- An expression can be written. Its text has no LF. Each of its binary operators, of which there are `count`, makes it two characters
 -- longer than its spelling.
 record ShortExpr (u : List ℕ) (e : Expr) : Type 0 where
   count : ℕ
@@ -70,6 +73,7 @@ record ShortExpr (u : List ℕ) (e : Expr) : Type 0 where
   short : length (expr_text e) ≤ length u + 2 * count
   plain : has_no_feed (expr_text e) ≡ true
   named : list_all is_name (expr_names e) ≡ true
+  sum : IsSum e
 
 -- a sign is one character
 sign_length : (op : UnaryOp) → length (sign_text op) ≡ 1
@@ -112,7 +116,7 @@ no_feed_sum op s t e f =
 
 -- an operand alone
 operand_alone : (u : List ℕ) (e : Expr) → ShortOperand u e → ShortExpr u e
-operand_alone u e o = record { count = 0; room = omega (arith, o.some); short = omega (arith, o.short); plain = o.plain; named = o.named }
+operand_alone u e o = record { count = 0; room = omega (arith, o.some); short = omega (arith, o.short); plain = o.plain; named = o.named; sum = only_operand o.operand }
 
 -- a sign before an operand
 signed_is_short : (c : ℕ) (u : List ℕ) (op : UnaryOp) (a : Expr) → ShortOperand u a → ShortExpr (c ∷ u) (unary op a)
@@ -122,6 +126,7 @@ signed_is_short c u op a o = record {
   short = omega (arith, o.short, sign_length op, length-append (sign_text op) (expr_text a));
   plain = no_feed_append (sign_text op) (expr_text a) (no_feed_sign op) o.plain;
   named = o.named;
+  sum = signed_operand o.operand;
 }
 
 -- an operator between an expression and an operand
@@ -135,6 +140,7 @@ sum_is_short t u c op a b l r =
       short = omega (arith, l.short, r.short, spelling, text);
       plain = no_feed_sum op (expr_text a) (expr_text b) l.plain r.plain;
       named = list_all-append is_name (expr_names a) (expr_names b) ∙ true_both _ _ l.named r.named;
+      sum = sum_of l.sum r.operand;
     }
 
 -- what is spelled has a short text
@@ -146,15 +152,16 @@ expr_is_short u e (spells_sum {t = t} {u = v} {c = c} {op = op} {a = a} {b = b} 
     subst (λ x. ShortExpr u x) (sym is)
     (subst (λ w. ShortExpr w (binary op a b)) (sym whole) (sum_is_short t v c op a b (expr_is_short t a left) (operand_is_short v b right)))
 
--- A statement's text fits a line with two blanks before it, and has no LF.
+-- A statement can be written. Its text fits a line with two blanks before it, and has no LF.
 pub record ShortAction (a : Action) : Type 0 where
   pub short : length (action_text a) ≤ 130
   pub plain : has_no_feed (action_text a) ≡ true
   pub named : list_all is_name (action_names a) ≡ true
+  pub writable : IsWritableAction a
 
 -- STOP is short
 stop_is_short : ShortAction stop
-stop_is_short = record { short = omega arith; plain = refl; named = refl }
+stop_is_short = record { short = omega arith; plain = refl; named = refl; writable = writable_stop }
 
 -- an equals sign and its blanks are three characters
 assignment_length : (x t : List ℕ) → length (x ++ codes " = " ++ t) ≡ length x + (3 + length t)
@@ -173,6 +180,7 @@ assign_is_short t x u e few whole named value =
       short = omega (arith, few, spelling, text, variable.some, value.room, value.short);
       plain = no_feed_append (x ++ codes " = ") (expr_text e) (no_feed_append x (codes " = ") (no_feed_name x named) refl) value.plain;
       named = true_both (is_name x) (list_all is_name (expr_names e)) named value.named;
+      writable = writable_assign named value.sum;
     }
 
 -- what a card spells has a short text

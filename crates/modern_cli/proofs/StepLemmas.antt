@@ -1,5 +1,6 @@
 -- One more item of a list, at the step of a loop that goes over it.
-use Rattle.std.proofs.Common.{◌≡◌, ℕ, ◌+◌, ◌<◌, List, [], ◌∷◌, ◌++◌, map, flat_map, length, get_or, take, sym, ap, ◌∙◌, append_assoc}
+use Rattle.std.proofs.Common.{◌≡◌, ℕ, ◌+◌, ◌<◌, List, [], ◌∷◌, ◌++◌, suc, map, flat_map, length, get_or, take, drop, add-one, sym, ap, ◌∙◌, append_assoc}
+use Rattle.std.proofs.Math.Seq.{drop-cons}
 use Rattle.std.proofs.lemmas.List.{take_more, append-nil}
 
 -- what a loop has appended is the text of the items so far, and the text of one more item
@@ -22,3 +23,7 @@ pub flat_map-map-more : {X Y A : Type 0} (f : Y → List A) (v : X → Y) (xs : 
 flat_map-map-more f v [] x = append-nil (f (v x))
 flat_map-map-more f v (y ∷ ys) x =
     ap (λ l. f (v y) ++ l) (flat_map-map-more f v ys x) ∙ sym (append_assoc (f (v y)) (flat_map f (map v ys)) (f (v x)))
+
+-- what is left of a list from an item on
+pub drop_more : {X : Type 0} (xs : List X) (i : ℕ) (x : X) → x ≡ get_or xs i x → i < length xs → drop i xs ≡ x ∷ drop (i + 1) xs
+drop_more xs i x is lt = rw (add-one i) (drop-cons xs i x lt ∙ ap (λ y. y ∷ drop (suc i) xs) (sym is))

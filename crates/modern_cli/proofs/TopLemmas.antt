@@ -122,7 +122,7 @@ module _ (command : Option Command) (files : Files) (new : Option Files) (unread
   refused_by Usage status answers readable is comes = absurd (subst (λ c. FromFile c (Some files) (λ _ bytes. IsRefused bytes)) answers.1 is)
   refused_by ReadFault status answers readable is comes = absurd (readable answers.1)
   refused_by Missing status answers readable is comes = absurd (lacks_none command files _ answers.2 is)
-  refused_by WriteFault status answers readable is comes = absurd (built_not_refused command files answers.1 is)
+  refused_by WriteFault status answers readable is comes = absurd (built_not_refused command files (from_more command (Some files) _ (λ _ bytes. IsBuilt bytes) (λ c bytes p. (p.0, p.1)) answers.1) is)
   refused_by Memory status answers readable is comes = inr (memory_is status comes)
 
   -- what comes for the source of a program

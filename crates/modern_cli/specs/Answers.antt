@@ -6,7 +6,7 @@ use Rattle.tree77.specs.Source.{IsSource}
 use Rattle.modern_cli.specs.Conversion.{program_report}
 use Rattle.modern_cli.specs.Words.{Command}
 use Rattle.modern_cli.specs.Outputs.{with_files, outputs}
-use Rattle.modern_cli.specs.FromFile.{FromFile, LacksName, IsBuilt, PartlyConverts}
+use Rattle.modern_cli.specs.FromFile.{FromFile, LacksName, PartlyConverts}
 use Rattle.modern_cli.specs.Lines.{usage_line, memory_line, IsFileLine, IsOutputLine, IsRefusalText}
 use Rattle.modern_cli.specs.declared.status.Status.{Status}
 use Rattle.modern_cli.specs.declared.status.Status.TheVariants.{Done, Refused, Usage, ReadFault, Missing, WriteFault, Memory}
@@ -20,11 +20,11 @@ pub record ExactlyWhere (expected status : Status) (fact : Type 0) : Type 0 wher
   pub only : status ≡ expected → fact
   pub always : fact → IsOrMemory status expected
 
--- the whole of what is asked was done
+-- what may be answered where no fault and no absence was counted
 abbrev pub IsComplete : Status → Type 0
 IsComplete status = (status ≡ Done) ⊎ (status ≡ Refused) ⊎ (status ≡ Memory)
 
--- whose text isn't a line
+-- whose text is owed whole: a sink that fails changes the status
 abbrev pub IsMain : Status → Type 0
 IsMain Done = Unit {0}
 IsMain Refused = Unit {0}
@@ -34,7 +34,7 @@ IsMain Missing = ⊥
 IsMain WriteFault = ⊥
 IsMain Memory = ⊥
 
--- no output is written before these
+-- the statuses that come before any output is written
 abbrev pub IsBeforeWrites : Status → Type 0
 IsBeforeWrites Done = ⊥
 IsBeforeWrites Refused = Unit {0}
@@ -51,11 +51,11 @@ IsPartly command old new = (new ≡ old) ⊎ FromFile command old (PartlyConvert
 -- The status that is answered, with the fault or the absence that was counted for it, what is held then, and the text for it.
 abbrev pub Answers : Status → Option Command → (old new : Option Files) → (unread absent unwritten : Type 0) → List ℕ → Type 0
 Answers Done command old new unread absent unwritten text =
-    FromFile command old (λ c bytes. (p : SourceProgram) × IsSource 0 bytes p × (new ≡ with_files (outputs c p) old) × (text ≡ program_report p))
+    FromFile command old (λ c bytes. (p : SourceProgram) × IsSource 0 bytes p × (new ≡ with_files (outputs c bytes p) old) × (text ≡ program_report p))
 Answers Refused command old new unread absent unwritten text = (new ≡ old) × IsRefusalText command old text
 Answers Usage command old new unread absent unwritten text = (new ≡ old) × (command ≡ None) × (text ≡ usage_line)
 Answers ReadFault command old new unread absent unwritten text = (new ≡ old) × unread × IsFileLine (codes "READ FAULT ") command text
 Answers Missing command old new unread absent unwritten text = (new ≡ old) × absent × LacksName command old × IsFileLine (codes "MISSING ") command text
 Answers WriteFault command old new unread absent unwritten text =
-    unwritten × FromFile command old (λ c bytes. IsBuilt bytes) × IsOutputLine (codes "WRITE FAULT ") command text
+    unwritten × IsOutputLine command old new text
 Answers Memory command old new unread absent unwritten text = text ≡ memory_line

@@ -1,5 +1,6 @@
 -- The conversion of the bytes of one file.
 use Rattle.std.specs.Prelude.{◌≡◌, ℕ, List, [], ◌∷◌, Result, Ok, Err}
+use Rattle.text_base.specs.Cards.{comments}
 use Rattle.text_base.specs.Refusing.{not_built}
 use Rattle.tree77.specs.Tree.{SourceProgram}
 use Rattle.tree77.specs.Source.{IsSource}
@@ -9,9 +10,9 @@ use Rattle.modern_cli.specs.Written.{written, map_lines, counts_of, report_text}
 use Rattle.modern_cli.specs.declared.convert.ConvertError.{ConvertError}
 use Rattle.modern_cli.specs.declared.convert.ConvertError.TheVariants.{Refused, Memory}
 
--- the texts that are written for a program
-abbrev pub program_text : SourceProgram → List ℕ
-program_text p = printed (written p)
+-- the texts that are written for a program with the comments of the bytes of its source
+abbrev pub program_text : List ℕ → SourceProgram → List ℕ
+program_text bytes p = printed (written (comments bytes) p)
 
 abbrev pub program_map : SourceProgram → List ℕ
 program_map p = map_text (map_lines p)
@@ -23,7 +24,7 @@ program_report p = report_text (counts_of p)
 pub record IsConversion (bytes text map report : List ℕ) : Type 0 where
   pub program : SourceProgram
   pub is_source : IsSource 0 bytes program
-  pub is_text : text ≡ program_text program
+  pub is_text : text ≡ program_text bytes program
   pub is_map : map ≡ program_map program
   pub is_report : report ≡ program_report program
 

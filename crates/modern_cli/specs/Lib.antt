@@ -1,6 +1,8 @@
 pub mod MapText
 pub mod Match
 pub mod Written
+pub mod Remarks
+pub mod Positions
 pub mod Conversion
 pub mod StatementViews
 pub mod Names
@@ -16,4 +18,4 @@ pub mod Views
 pub mod Stored
 pub mod Operands
 pub mod Statements
-pub mod ShortLines
+pub mod WrittenProper

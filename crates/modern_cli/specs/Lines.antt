@@ -1,5 +1,5 @@
 -- The lines that are printed.
-use Rattle.std.specs.Prelude.{◌≡◌, ℕ, List, [], ◌∷◌, ◌++◌, Contains, codes, decimal, flat_map, Option, Some, None}
+use Rattle.std.specs.Prelude.{◌≡◌, ℕ, List, [], ◌∷◌, ◌++◌, codes, decimal, flat_map, Option, Some, None}
 use Rattle.text_base.specs.Causes.{cause_number, cause_text}
 use Rattle.text_base.specs.Files.{Files}
 use Rattle.text_base.specs.Refusing.{not_built}
@@ -7,7 +7,8 @@ use Rattle.text_base.specs.declared.refusal.Refusal.{Refusal}
 use Rattle.tree77.specs.Tree.{SourceProgram}
 use Rattle.tree77.specs.Source.{IsSource}
 use Rattle.modern_cli.specs.Conversion.{program_report, IsRefused}
-use Rattle.modern_cli.specs.Words.{Command, output_names}
+use Rattle.modern_cli.specs.Words.{Command}
+use Rattle.modern_cli.specs.Outputs.{outputs, StoppedAt}
 use Rattle.modern_cli.specs.FromFile.{FromFile}
 
 abbrev pub usage_line : List ℕ
@@ -28,10 +29,13 @@ abbrev pub IsFileLine : List ℕ → Option Command → List ℕ → Type 0
 IsFileLine words None text = ⊥
 IsFileLine words (Some command) text = text ≡ line_with words command.file
 
--- a word or two, and the name of one of the command's outputs
-abbrev pub IsOutputLine : List ℕ → Option Command → List ℕ → Type 0
-IsOutputLine words None text = ⊥
-IsOutputLine words (Some command) text = (name : List ℕ) × Contains (output_names command.out) name × (text ≡ line_with words name)
+-- the line of the name at which the writing of some outputs stopped
+abbrev pub StoppedLine : List (List ℕ × List ℕ) → (old new : Option Files) → List ℕ → Type 0
+StoppedLine outputs old new text = (name : List ℕ) × StoppedAt outputs old new name × (text ≡ line_with (codes "WRITE FAULT ") name)
+
+-- the line of the output of a program at which the writing stopped, of which the file is the source
+abbrev pub IsOutputLine : Option Command → (old new : Option Files) → List ℕ → Type 0
+IsOutputLine command old new text = FromFile command old (λ c bytes. (p : SourceProgram) × IsSource 0 bytes p × StoppedLine (outputs c bytes p) old new text)
 
 -- `file:line: number cause name`
 abbrev pub refusal_head : List ℕ → ℕ → ℕ → List ℕ → List ℕ

@@ -38,9 +38,10 @@ pub record OneLine (layout : Layout) (lines : List MapLine) (sequence offset : �
   pub covers : Covers layout line sequence offset kind
   pub only : (other : ℕ) (that : MapLine) → slice_get lines other ≡ Some that → Covers layout that sequence offset kind → other ≡ index
 
--- the line covers places that some entity sees with its kind, and nothing else
+-- the line covers places that some entity sees with its kind, and nothing else, and object places count from 1
 pub record IsNeeded (layout : Layout) (line : MapLine) : Type 0 where
   pub some : 0 < line.count
+  pub from_one : 1 ≤ line.at
   pub sequence : ℕ
   pub named : sequence_text layout sequence ≡ Some line.sequence
   pub seen : (offset : ℕ) → line.first ≤ offset → offset < line.first + line.count → IsSeen layout sequence offset line.kind

@@ -1,7 +1,12 @@
 -- What is printed on a sink that may fail.
 use Rattle.std.specs.Prelude.{◌≡◌, ◌⊎◌, ℕ, List, ◌++◌, codes, Option}
 use Rattle.text_base.specs.Files.{Files}
+use Rattle.tree77.specs.Tree.{SourceProgram}
+use Rattle.tree77.specs.Source.{IsSource}
+use Rattle.modern_cli.specs.Conversion.{program_report}
 use Rattle.modern_cli.specs.Words.{Command}
+use Rattle.modern_cli.specs.Outputs.{with_files, outputs}
+use Rattle.modern_cli.specs.FromFile.{FromFile}
 use Rattle.modern_cli.specs.Lines.{usage_line, memory_line, sink_line, IsFileLine, IsOutputLine, IsReport, IsRefusalText}
 use Rattle.modern_cli.specs.Answers.{IsMain}
 use Rattle.modern_cli.specs.declared.status.Status.{Status}
@@ -34,24 +39,26 @@ Says failed denied wanted whole status text =
 abbrev pub PrintsSome : Type 0 → (List ℕ → Type 0) → List ℕ → Type 0
 PrintsSome troubled form text = (line : List ℕ) × form line × PrintsLine troubled line text
 
--- the report of a program, or the lines of a refusal
-abbrev pub IsMainText : Option Command → Option Files → List ℕ → Type 0
-IsMainText command held text = IsReport command held text ⊎ IsRefusalText command held text
+-- the report of a program whose outputs were set, or the lines of a refusal that left the contents as they were
+abbrev pub IsMainText : Option Command → (old new : Option Files) → List ℕ → Type 0
+IsMainText command old new text =
+    FromFile command old (λ c bytes. (p : SourceProgram) × IsSource 0 bytes p × (new ≡ with_files (outputs c bytes p) old) × (text ≡ program_report p))
+    ⊎ ((new ≡ old) × IsRefusalText command old text)
 
 -- a first part of the report or of the refusals, and then the line
-abbrev pub PrintsMainCut : Type 0 → Option Command → Option Files → List ℕ → List ℕ → Type 0
-PrintsMainCut troubled command held line text = (main : List ℕ) × IsMainText command held main × PrintsCut troubled main line text
+abbrev pub PrintsMainCut : Type 0 → Option Command → (old new : Option Files) → List ℕ → List ℕ → Type 0
+PrintsMainCut troubled command old new line text = (main : List ℕ) × IsMainText command old new main × PrintsCut troubled main line text
 
 -- What is printed at each status. An output's name is printed only where a write was counted as a fault, `output` only where the sink was.
-abbrev pub Prints : Status → Option Command → Option Files → (unwritten failed denied : Type 0) → List ℕ → Type 0
-Prints Done command held unwritten failed denied text = IsReport command held text
-Prints Refused command held unwritten failed denied text = IsRefusalText command held text
-Prints Usage command held unwritten failed denied text = PrintsLine (failed ⊎ denied) usage_line text
-Prints ReadFault command held unwritten failed denied text = PrintsSome (failed ⊎ denied) (IsFileLine (codes "READ FAULT ") command) text
-Prints Missing command held unwritten failed denied text = PrintsSome (failed ⊎ denied) (IsFileLine (codes "MISSING ") command) text
-Prints WriteFault command held unwritten failed denied text =
-    (unwritten × PrintsSome (failed ⊎ denied) (IsOutputLine (codes "WRITE FAULT ") command) text)
-    ⊎ (failed × PrintsMainCut (failed ⊎ denied) command held sink_line text)
-Prints Memory command held unwritten failed denied text =
+abbrev pub Prints : Status → Option Command → (old new : Option Files) → (unwritten failed denied : Type 0) → List ℕ → Type 0
+Prints Done command old new unwritten failed denied text = IsReport command old text
+Prints Refused command old new unwritten failed denied text = IsRefusalText command old text
+Prints Usage command old new unwritten failed denied text = PrintsLine (failed ⊎ denied) usage_line text
+Prints ReadFault command old new unwritten failed denied text = PrintsSome (failed ⊎ denied) (IsFileLine (codes "READ FAULT ") command) text
+Prints Missing command old new unwritten failed denied text = PrintsSome (failed ⊎ denied) (IsFileLine (codes "MISSING ") command) text
+Prints WriteFault command old new unwritten failed denied text =
+    (unwritten × PrintsSome (failed ⊎ denied) (IsOutputLine command old new) text)
+    ⊎ (failed × PrintsMainCut (failed ⊎ denied) command old new sink_line text)
+Prints Memory command old new unwritten failed denied text =
     PrintsLine (failed ⊎ denied) memory_line text
-    ⊎ (denied × PrintsMainCut (failed ⊎ denied) command held memory_line text)
+    ⊎ (denied × PrintsMainCut (failed ⊎ denied) command old new memory_line text)

@@ -1,9 +1,14 @@
 // The conversion of one file.
-ghost use Rattle.std.specs.Prelude.{◌≡◌, [], ◌∷◌, IfOk};
+ghost use Rattle.std.specs.Prelude.{◌≡◌, ◌≤◌, true, [], ◌∷◌, map, IfOk, IfSome};
 ghost use Rattle.std.specs.Option.{option_map};
+ghost use Rattle.text_base.specs.Cards as form;
+ghost use Rattle.card_reader.specs.Views.{comment_of};
 ghost use Rattle.tree77.specs.Plain.{unit_of, program_of};
 ghost use Rattle.tree77.specs.Source.{IsSource};
 ghost use Rattle.tree77.specs.Reading.{read_source};
+ghost use Rattle.tree90.specs.Printed.{printed};
+ghost use Rattle.modern_cli.specs.Written.{sizes_of, written};
+ghost use Rattle.modern_cli.specs.Remarks.{is_ascending};
 ghost use Rattle.modern_cli.specs.Conversion as texts;
 ghost use Rattle.modern_cli.specs.Conversion.{IsConversion, RefusesWith};
 
@@ -13,7 +18,7 @@ use crate::report::{Counts, report};
 use crate::typing::is_unit_typed;
 use crate::unit_reader::read_cards_unit;
 use crate::written::written_program;
-use card_reader::{CardsError, read_cards};
+use card_reader::{CardsError, Deck, read_cards};
 use sqlite_items::Items;
 use std::alloc::{AllocError, Global};
 use text_base::{Bytes, Refusals, not_built};
@@ -54,9 +59,17 @@ fn one_unit(alloc: Global, unit: Unit77) -> Result<Program77, AllocError>
     Ok(Program77 { units })
 }
 
-// The program that the bytes are the source of, if they are.
-fn read_bytes(alloc: Global, bytes: &[u8]) -> Result<Option<Program77>, AllocError>
-    ensures { IfOk result (λ p. option_map program_of p ≡ read_source 0 bytes.now) }
+/// The program of a file, and what the file was read into, with its comments.
+#[derive(Drop)]
+struct Source {
+    program: Program77,
+    deck: Deck,
+}
+
+// The program that the bytes are the source of, if they are, with their comments.
+fn read_bytes(alloc: Global, bytes: &[u8]) -> Result<Option<Source>, AllocError>
+    ensures program { IfOk result (λ s. option_map (λ (s : Source). program_of s.program) s ≡ read_source 0 bytes.now) }
+    ensures comments { IfOk result (λ s. IfSome s (λ s. map comment_of s.deck.comments ≡ form.comments bytes.now)) }
 {
     let deck = match read_cards(alloc, 0, bytes) {
         Ok(deck) => deck,
@@ -70,39 +83,43 @@ fn read_bytes(alloc: Global, bytes: &[u8]) -> Result<Option<Program77>, AllocErr
         return Ok(None);
     }
     let program = one_unit(alloc, unit)?;
-    Ok(Some(program))
+    Ok(Some(Source { program, deck }))
 }
 
-fn read_program(alloc: Global, bytes: &[u8]) -> Result<Program77, ConvertError>
-    ensures found { IfOk result (λ p. IsSource 0 bytes.now (program_of p)) }
+fn read_program(alloc: Global, bytes: &[u8]) -> Result<Source, ConvertError>
+    ensures found { IfOk result (λ s. IsSource 0 bytes.now (program_of s.program)) }
+    ensures comments { IfOk result (λ s. map comment_of s.deck.comments ≡ form.comments bytes.now) }
     ensures refused { RefusesWith bytes.now result }
 {
     reading_is_spelling();
     match read_bytes(alloc, bytes)? {
-        Some(program) => Ok(program),
+        Some(source) => Ok(source),
         None => Err(ConvertError::Refused(not_built(alloc, 0)?)),
     }
 }
 
-fn written_texts(alloc: Global, program: &Program77) -> Result<Outputs, AllocError>
-    ensures text { IfOk result (λ o. o.text ≡ texts.program_text (program_of program.now)) }
-    ensures map { IfOk result (λ o. o.map ≡ texts.program_map (program_of program.now)) }
-    ensures report { IfOk result (λ o. o.report ≡ texts.program_report (program_of program.now)) }
+fn written_texts(alloc: Global, source: &Source) -> Result<Outputs, AllocError>
+    requires counted { sizes_of (program_of source.now.program).units ≤ 4294967295 }
+    requires in_order { is_ascending 0 (map comment_of source.now.deck.comments) ≡ true }
+    ensures text { IfOk result (λ o. o.text ≡ printed (written (map comment_of source.now.deck.comments) (program_of source.now.program))) }
+    ensures map { IfOk result (λ o. o.map ≡ texts.program_map (program_of source.now.program)) }
+    ensures report { IfOk result (λ o. o.report ≡ texts.program_report (program_of source.now.program)) }
 {
-    let written = written_program(alloc, program)?;
+    let written = written_program(alloc, &source.program, source.deck.comments())?;
     Ok(Outputs {
         text: program_text(alloc, &written)?,
-        map: map_of(alloc, program)?,
-        report: report(alloc, &Counts::of(program))?,
+        map: map_of(alloc, &source.program)?,
+        report: report(alloc, &Counts::of(&source.program))?,
     })
 }
 
 /// What the file is converted to. It is refused exactly where its bytes are the source of no program of
 /// the language; the list is then the one refusal of the whole file.
+#[tactic(auto, using(crate::proofs::SizeLemmas::source_is_counted, crate::proofs::CommentLemmas::comments_ascend))]
 pub fn convert(alloc: Global, bytes: &[u8]) -> Result<Outputs, ConvertError>
     ensures converts { IfOk result (λ o. IsConversion bytes.now o.text o.map o.report) }
     ensures refused { RefusesWith bytes.now result }
 {
-    let program = read_program(alloc, bytes)?;
-    Ok(written_texts(alloc, &program)?)
+    let source = read_program(alloc, bytes)?;
+    Ok(written_texts(alloc, &source)?)
 }

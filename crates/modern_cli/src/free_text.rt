@@ -1,22 +1,24 @@
 // The text of a Fortran 90 program.
 ghost use Rattle.std.specs.Prelude.{◌≡◌, ◌*◌, ◌++◌, codes, min, map, flat_map, replicate, IfOk, OnOk};
 ghost use Rattle.std.specs.Fmt.{signed_decimal};
-ghost use Rattle.tree90.specs.Tree.{done};
-ghost use Rattle.tree90.specs.Plain.{unary_of, binary_of, expr_of, action_of, stmt_of, stmts_before, code_of, object_of, declared_of, unit_of, program_of};
-ghost use Rattle.tree90.specs.Printed.{line, sign_text, operator_text, expr_text, action_text, stmt_text, code_text, declared_text, unit_text, printed};
+ghost use Rattle.tree90.specs.Plain.{unary_of, binary_of, expr_of, action_of, stmt_of, remark_of, remarks_of, object_of, declared_of, unit_of, program_of};
+ghost use Rattle.tree90.specs.Printed.{line, remark_text, remarks_text, sign_text, operator_text, expr_text, action_text, stmt_text, declared_text, unit_text, printed};
+ghost use Rattle.modern_cli.specs.Statements.{item_text};
 
 use std::alloc::{AllocError, Global};
 use text_base::{Bytes, Name};
 use tree90::{
-    Binary90, Declared90, Expr90, Item90, Program90, Simple90, Stmt90, Type90, Unary90, Unit90,
+    Binary90, Declared90, Expr90, Item90, Program90, Remark, Simple90, Stmt90, Type90, Unary90,
+    Unit90,
 };
 
-/// The one text of the program. It fails for want of memory alone.
+/// The one text of the program with its comments. It fails for want of memory alone.
 pub fn program_text(alloc: Global, program: &Program90) -> Result<Bytes, AllocError>
     ensures { IfOk result (λ text. text ≡ printed (program_of program.now)) }
 {
     let mut out = Bytes::new(alloc);
     write_units(alloc, &mut out, program.units.as_slice())?;
+    write_remarks(&mut out, program.tail.as_slice())?;
     Ok(out)
 }
 
@@ -32,12 +34,49 @@ fn write_units(alloc: Global, out: &mut Bytes, units: &[Unit90]) -> Result<(), A
 fn write_unit(alloc: Global, out: &mut Bytes, unit: &Unit90) -> Result<(), AllocError>
     ensures { OnOk result (out.new ≡ out.old ++ unit_text (unit_of unit.now)) }
 {
-    write_line(out, 0, b"PROGRAM ", unit.name.as_slice())?;
-    write_line(out, 1, b"IMPLICIT NONE", b"")?;
-    write_line(out, 1, b"SAVE", b"")?;
+    write_header(out, unit)?;
     write_declarations(out, unit.declared.as_slice())?;
     write_items(alloc, out, 1, unit.items.as_slice())?;
+    write_end(out, unit)
+}
+
+/// Appends the header with the comments round it, and the fixed lines.
+fn write_header(out: &mut Bytes, unit: &Unit90) -> Result<(), AllocError>
+    ensures { OnOk result (out.new ≡ out.old ++ (remarks_text (remarks_of unit.now.head) ++ line 0 (codes "PROGRAM " ++ unit.now.name) ++ remarks_text (remarks_of unit.now.inner) ++ line 1 (codes "IMPLICIT NONE") ++ line 1 (codes "SAVE"))) }
+{
+    write_remarks(out, unit.head.as_slice())?;
+    write_line(out, 0, b"PROGRAM ", unit.name.as_slice())?;
+    write_remarks(out, unit.inner.as_slice())?;
+    write_line(out, 1, b"IMPLICIT NONE", b"")?;
+    write_line(out, 1, b"SAVE", b"")
+}
+
+/// Appends the comments that stand before END alone, and the END line.
+fn write_end(out: &mut Bytes, unit: &Unit90) -> Result<(), AllocError>
+    ensures { OnOk result (out.new ≡ out.old ++ (remarks_text (remarks_of unit.now.tail) ++ line 0 (codes "END PROGRAM " ++ unit.now.name))) }
+{
+    write_remarks(out, unit.tail.as_slice())?;
     write_line(out, 0, b"END PROGRAM ", unit.name.as_slice())
+}
+
+fn write_remarks(out: &mut Bytes, remarks: &[Remark]) -> Result<(), AllocError>
+    ensures { OnOk result (out.new ≡ out.old ++ remarks_text (remarks_of remarks.now)) }
+{
+    for remark in remarks {
+        write_remark(out, remark)?;
+    }
+    Ok(())
+}
+
+/// Appends a comment, which is never indented.
+fn write_remark(out: &mut Bytes, remark: &Remark) -> Result<(), AllocError>
+    ensures { OnOk result (out.new ≡ out.old ++ remark_text (remark_of remark.now)) }
+{
+    if remark.marked {
+        out.push(b'!')?;
+    }
+    out.extend(remark.text.as_slice())?;
+    out.push(b'\n')
 }
 
 fn write_declarations(out: &mut Bytes, declared: &[Declared90]) -> Result<(), AllocError>
@@ -71,7 +110,7 @@ fn write_items(
     level: usize,
     items: &[Item90],
 ) -> Result<(), AllocError>
-    ensures { OnOk result (out.new ≡ out.old ++ code_text level (code_of items.now)) }
+    ensures { OnOk result (out.new ≡ out.old ++ flat_map (item_text level) items.now) }
 {
     for item in items {
         write_item(alloc, out, level, item)?;
@@ -80,8 +119,9 @@ fn write_items(
 }
 
 fn write_item(alloc: Global, out: &mut Bytes, level: usize, item: &Item90) -> Result<(), AllocError>
-    ensures { OnOk result (out.new ≡ out.old ++ code_text level (stmts_before item.now.body done)) }
+    ensures { OnOk result (out.new ≡ out.old ++ item_text level item.now) }
 {
+    write_remarks(out, item.comments.as_slice())?;
     write_stmts(alloc, out, level, item.body.as_slice())
 }
 
@@ -91,7 +131,7 @@ fn write_stmts(
     level: usize,
     stmts: &[Stmt90],
 ) -> Result<(), AllocError>
-    ensures { OnOk result (out.new ≡ out.old ++ code_text level (stmts_before stmts.now done)) }
+    ensures { OnOk result (out.new ≡ out.old ++ flat_map (stmt_text level) (map stmt_of stmts.now)) }
 {
     for stmt in stmts {
         write_stmt(alloc, out, level, stmt)?;

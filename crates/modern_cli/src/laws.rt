@@ -1,8 +1,8 @@
-// What holds of the definitions of a written program.
-ghost use Rattle.modern_cli.specs.ShortLines.{WrittenLinesAreShort};
+// What holds of what is written.
+ghost use Rattle.modern_cli.specs.WrittenProper.{WrittenIsProper};
 
-/// No line of what is written for a source has more than 132 characters (ISO/IEC 1539:1991 section 3.3.1), so
-/// none is continued.
-pub fn written_lines_are_short()
-    ensures { WrittenLinesAreShort }
+/// What is written for a source is a proper program: one main program whose names are declared once each, in which each
+/// part has a form that can be written, and no line has more than 132 characters (ISO/IEC 1539:1991 section 3.3.1).
+pub fn written_is_proper()
+    ensures { WrittenIsProper }
 {}

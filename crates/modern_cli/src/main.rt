@@ -10,6 +10,7 @@ mod lines;
 mod map;
 mod memory;
 mod printing;
+mod remarks;
 mod report;
 mod statement;
 mod status;
@@ -21,7 +22,7 @@ mod words;
 mod writing;
 mod written;
 
-pub use laws::written_lines_are_short;
+pub use laws::written_is_proper;
 pub use memory::in_memory;
 pub use status::Status;
 use std::env;

@@ -10,7 +10,7 @@ use crate::top::modern;
 use std::alloc::Global;
 use text_base::{MemoryShelf, MemorySink};
 
-/// Where no call is to fail, a source is converted, any other file is refused, and an absent one is missing.
+/// Where no call is to fail, a source is converted, any other file is refused, and an absent one is missing, or want of memory is answered.
 pub fn in_memory(
     alloc: Global,
     words: &[String],

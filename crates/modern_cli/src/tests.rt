@@ -6,10 +6,11 @@ use std::fs;
 use std::test::Fail;
 use text_base::{Bytes, DiskShelf, MemoryShelf, MemorySink, Shelf, StdSink};
 
-const SOURCE: &[u8] = b"      PROGRAM T\n      I = 7\n      J = 007\n      I = 12\n      END\n";
+const SOURCE: &[u8] =
+    b"C     FIRST\n      PROGRAM T\n      I = 1\n*     NEXT\n      J = I + 2 - 5\n\n      STOP\n      END\n";
 
 const TEXT: &[u8] =
-    b"PROGRAM T\n  IMPLICIT NONE\n  SAVE\n  INTEGER :: I\n  INTEGER :: J\n  I = 7\n  J = 7\n  I = 12\nEND PROGRAM T\n";
+    b"!     FIRST\nPROGRAM T\n  IMPLICIT NONE\n  SAVE\n  INTEGER :: I\n  INTEGER :: J\n  I = 1\n!     NEXT\n  J = I + 2 - 5\n\n  STOP\nEND PROGRAM T\n";
 
 const MAP: &[u8] = b"T.I 0 1 I T:I 1\nT.J 0 1 I T:J 1\n";
 
@@ -163,10 +164,31 @@ fn a_failing_write_ends_the_writing(rt: HostRuntime) -> Result<(), Fail> {
 }
 
 #[test]
+fn a_dead_sink_leaves_the_outputs(rt: HostRuntime) -> Result<(), Fail> {
+    let alloc = rt.alloc();
+    let words = words_of(alloc, &["one", "t.f", "o"])?;
+    let mut shelf = MemoryShelf::new(alloc);
+    shelf.hold("t.f", SOURCE)?;
+    let mut out = MemorySink::new(alloc, 7);
+    for put in 1..=100u64 {
+        out.fail_put(put)?;
+    }
+    assert_eq!(rt;
+        modern(alloc, &words, &mut shelf, &mut out),
+        Status::WriteFault
+    );
+    assert_eq!(rt; out.bytes(), b"".as_slice());
+    assert!(rt; shelf.held("o") == Some(TEXT));
+    assert!(rt; shelf.held("o.map") == Some(MAP));
+    assert!(rt; shelf.held("o.report") == Some(REPORT));
+    Ok(())
+}
+
+#[test]
 fn sources_are_converted(rt: HostRuntime) -> Result<(), Fail> {
     let alloc = rt.alloc();
     // The source, what is written, and its map.
-    let cases: [(&[u8], &[u8], &[u8]); 6] = [
+    let cases: [(&[u8], &[u8], &[u8]); 9] = [
         (
             b"      PROGRAM T\n      I = 1\n      J = I + 2 - 5\n      STOP\n      END\n",
             b"PROGRAM T\n  IMPLICIT NONE\n  SAVE\n  INTEGER :: I\n  INTEGER :: J\n  I = 1\n  J = I + 2 - 5\n  STOP\nEND PROGRAM T\n",
@@ -196,6 +218,23 @@ fn sources_are_converted(rt: HostRuntime) -> Result<(), Fail> {
             b"T.NEXT 0 1 I T:NEXT 1\nT.K 0 1 I T:K 1\n",
         ),
         (
+            b"      PROGRAM T\n      I = 7\n      J = 007\n      I = 12\n      END\n",
+            b"PROGRAM T\n  IMPLICIT NONE\n  SAVE\n  INTEGER :: I\n  INTEGER :: J\n  I = 7\n  J = 7\n  I = 12\nEND PROGRAM T\n",
+            MAP,
+        ),
+        // comments at each place: before the header, after it, before a statement, before a CONTINUE, before END, after END
+        (
+            b"C1\n\n      PROGRAM T\n*2\n      I = 1\n!3\n      I = 2\nc4\n      CONTINUE\n   \n      STOP\nC 5\n      END\n*6\n",
+            b"!1\n\nPROGRAM T\n!2\n  IMPLICIT NONE\n  SAVE\n  INTEGER :: I\n  I = 1\n!3\n  I = 2\n!4\n   \n  STOP\n! 5\nEND PROGRAM T\n!6\n",
+            b"T.I 0 1 I T:I 1\n",
+        ),
+        // END is the first executable statement
+        (
+            b"      PROGRAM T\nC\n      END\n\n",
+            b"PROGRAM T\n!\n  IMPLICIT NONE\n  SAVE\nEND PROGRAM T\n\n",
+            b"",
+        ),
+        (
             b"      PROGRAM T\n      CONTINUE\n      END\n",
             b"PROGRAM T\n  IMPLICIT NONE\n  SAVE\nEND PROGRAM T\n",
             b"",
@@ -216,10 +255,42 @@ fn sources_are_converted(rt: HostRuntime) -> Result<(), Fail> {
     Ok(())
 }
 
+/// All bytes but LF in four lines, each after the mark, and then the rest.
+fn with_every_byte(alloc: Global, mark: u8, rest: &[u8]) -> Result<Vec<u8>, Fail> {
+    let mut made = Vec::new(alloc);
+    for number in 0..256usize {
+        if number % 64 == 0 {
+            made.push(b'\n')?;
+            made.push(mark)?;
+        }
+        if number != 10 {
+            made.push(number as u8)?;
+        }
+    }
+    made.push(b'\n')?;
+    made.extend_from_slice(rest)?;
+    Ok(made)
+}
+
+#[test]
+fn comments_keep_every_byte(rt: HostRuntime) -> Result<(), Fail> {
+    let alloc = rt.alloc();
+    let words = words_of(alloc, &["one", "t.f", "o"])?;
+    let mut shelf = MemoryShelf::new(alloc);
+    let source = with_every_byte(alloc, b'C', SOURCE)?;
+    let text = with_every_byte(alloc, b'!', TEXT)?;
+    shelf.hold("t.f", source.as_slice())?;
+    let mut out = MemorySink::new(alloc, 7);
+    assert_eq!(rt; modern(alloc, &words, &mut shelf, &mut out), Status::Done);
+    assert_eq!(rt; out.bytes(), REPORT);
+    assert!(rt; shelf.held("o") == Some(text.as_slice()));
+    Ok(())
+}
+
 #[test]
 fn what_is_no_source_is_refused(rt: HostRuntime) -> Result<(), Fail> {
     let alloc = rt.alloc();
-    let cases: [&[u8]; 20] = [
+    let cases: [&[u8]; 22] = [
         // a line of 73 bytes
         b"      PROGRAM T\n      I = 1                                                              \n      END\n",
         // no END
@@ -248,6 +319,10 @@ fn what_is_no_source_is_refused(rt: HostRuntime) -> Result<(), Fail> {
         // a code of STOP, and a label
         b"      PROGRAM T\n      STOP 1\n      END\n",
         b"      PROGRAM T\n   10 CONTINUE\n      END\n",
+        // the source of a program, but for one operator
+        b"C     FIRST\n      PROGRAM T\n      I = 1\n*     NEXT\n      J = I * 2\n\n      STOP\n      END\n",
+        // comments alone
+        b"C     FIRST\n\n*     NEXT\n",
         // an operator at the end
         b"      PROGRAM T\n      I = 1 +\n      END\n",
         // nothing

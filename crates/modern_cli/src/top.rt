@@ -52,7 +52,7 @@ pub fn modern<S: Shelf, O: Sink>(
 
     // What is printed.
     ensures printed { (text : List ℕ) × (O.written out.new ≡ append_known (O.written out.old) text)
-        × Prints result (form (words_of words.now)) (S.held shelf.old) (Rose (S.write_faults shelf.old) (S.write_faults shelf.new))
+        × Prints result (form (words_of words.now)) (S.held shelf.old) (S.held shelf.new) (Rose (S.write_faults shelf.old) (S.write_faults shelf.new))
         (Rose (O.faults out.old) (O.faults out.new)) (Rose (O.denials out.old) (O.denials out.new)) text }
 
     // The output does what the file does.

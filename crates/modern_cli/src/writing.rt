@@ -1,5 +1,5 @@
 // The writing of the outputs.
-ghost use Rattle.std.specs.Prelude.{◌≡◌, ◌≤◌, map, OnOk};
+ghost use Rattle.std.specs.Prelude.{◌≡◌, ◌≤◌, OnOk};
 ghost use Rattle.text_base.specs.Faults.{Rose};
 ghost use Rattle.modern_cli.specs.Outputs.{with_files, PartlyWritten};
 ghost use Rattle.modern_cli.specs.Views.{texts_of};
@@ -28,7 +28,7 @@ pub fn write_outputs<'a, S: Shelf>(
 ) -> Result<(), WriteError<'a>>
     ensures whole { OnOk result (S.held shelf.new ≡ with_files (texts_of outputs.now) (S.held shelf.old)) }
     ensures partly { PartlyWritten (texts_of outputs.now) (S.held shelf.old) (S.held shelf.new) }
-    ensures failed { FailsAt (map (λ o. o.name.now) outputs.now) (Rose (S.write_faults shelf.old) (S.write_faults shelf.new)) result }
+    ensures failed { FailsAt (texts_of outputs.now) (S.held shelf.old) (S.held shelf.new) (Rose (S.write_faults shelf.old) (S.write_faults shelf.new)) result }
     ensures write_count { S.write_faults shelf.old ≤ S.write_faults shelf.new }
     ensures read_count { S.read_faults shelf.new ≡ S.read_faults shelf.old }
     ensures absence_count { S.absences shelf.new ≡ S.absences shelf.old }

@@ -14,7 +14,7 @@ is_digit c = nat_le 48 c && nat_le c 57
 abbrev pub is_name_byte : ℕ → Bool
 is_name_byte c = is_upper c || is_digit c || c == 95
 
--- A symbolic name (X3.9 section 2.2, lengthened to 31 characters and with underscores). Nothing is no name,
+-- A symbolic name (X3.9 section 2.2, lengthened to 31 characters and with underscores). The empty text is no name,
 -- since it has no first letter.
 abbrev pub is_name : List ℕ → Bool
 is_name text = is_upper (slice_index text 0) && (list_all is_name_byte text && nat_le (length text) 31)

@@ -7,6 +7,7 @@ pub mod Put
 pub mod Memory
 pub mod Refusing
 pub mod Trees
+pub mod Constants
 pub mod Values
 pub mod Operations
 pub mod Runs

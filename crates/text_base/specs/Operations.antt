@@ -1,4 +1,4 @@
--- The operations that both languages share (X3.9 section 6.1; ISO/IEC 1539:1991 section 7.1.5).
+-- The operations that both languages share (X3.9 section 6.1; ISO/IEC 1539:1991 section 7.2.1).
 use Rattle.std.specs.Prelude.{ℤ, pos, negsuc, ◌+ℤ◌, ◌-ℤ◌, neg_ℤ, Bool, ◌&&◌, Option, Some, None, if◌then◌else◌}
 use Rattle.std.specs.Int.Signed.{le_z}
 use Rattle.text_base.specs.Trees.{UnaryOp, plus, minus, BinaryOp, add, subtract}

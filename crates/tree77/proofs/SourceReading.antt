@@ -7,7 +7,7 @@ use Rattle.text_base.specs.Chars.{characters}
 use Rattle.text_base.specs.declared.refusal.Place.{Place}
 use Rattle.tree77.specs.Tree.{simple, Code, done, item, SourceUnit, SourceProgram}
 use Rattle.tree77.specs.Tree as tree
-use Rattle.tree77.specs.Spelling.{Statement, program, action, continue, end, Spells}
+use Rattle.tree77.specs.Spelling.{Statement, program, action, continue, end}
 use Rattle.tree77.specs.Typing.{is_typed}
 use Rattle.tree77.specs.Source.{SpellsItems, SpellsUnit, IsSource}
 use Rattle.tree77.specs.Reading.{read_statement, Items, join_items, read_items, unit_with, read_unit, typed_unit, read_source}

@@ -1,15 +1,15 @@
 -- The statement that is read is the one that is spelled.
-use Rattle.std.proofs.Common.{◌≡◌, ◌≢◌, ℕ, zero, suc, ◌+◌, ◌<◌, ◌≤◌, ◌==◌, Bool, true, false, not, cond, ◌&&◌, ◌||◌, IsTrue, List, [], ◌∷◌, ◌++◌, length, take, drop, codes, Option, Some, None, refl, sym, ap, ◌∙◌, subst, arith, length-append, take-append-drop}
+use Rattle.std.proofs.Common.{◌≡◌, ℕ, suc, ◌+◌, ◌==◌, Bool, true, false, not, cond, ◌&&◌, List, [], ◌∷◌, ◌++◌, length, take, drop, codes, Option, Some, None, refl, sym, ap, ◌∙◌, subst, arith, take-append-drop}
 use Rattle.std.specs.Prelude.{nat_le, slice_index, if◌then◌else◌}
 use Rattle.std.specs.List.{list_all, position_from}
 use Rattle.std.specs.Option.{option_map}
 use Rattle.std.specs.Str.{bytes_eq}
 use Rattle.std.proofs.lemmas.Bool.{eqb-true, not-true}
-use Rattle.std.proofs.lemmas.List.{take_at, drop_at}
+use Rattle.std.proofs.lemmas.List.{take_at}
 use Rattle.std.proofs.lemmas.Slice.Eq.{bytes_eq-Decides}
 use Rattle.text_base.specs.Chars.{is_upper, is_name_byte, is_name}
 use Rattle.text_base.specs.Trees.{Expr, name, assign, stop}
-use Rattle.tree77.specs.Spelling.{Statement, program, action, continue, end, SpellsExpr, Spells, spells_program, spells_assign, spells_continue, spells_stop, spells_end}
+use Rattle.tree77.specs.Spelling.{Statement, program, action, continue, end, Spells, spells_program, spells_assign, spells_continue, spells_stop, spells_end}
 use Rattle.tree77.specs.Reading.{read_expr, read_assign, read_header, read_word, read_parts, read_statement}
 use Rattle.tree77.proofs.ExpressionReading.{both_true, true_both, expr_read, expr_spelled}
 

@@ -1,9 +1,8 @@
 -- How statements are spelled: a relation on the characters of a card, blanks left out.
-use Rattle.std.specs.Prelude.{◌≡◌, ℕ, ◌<◌, ◌≤◌, IsTrue, List, ◌∷◌, ◌++◌, length, codes, pos}
-use Rattle.std.specs.List.{list_all}
-use Rattle.std.specs.Str.Parse.{digits_value}
-use Rattle.text_base.specs.Chars.{is_digit, is_name}
-use Rattle.text_base.specs.Trees.{UnaryOp, plus, minus, BinaryOp, add, subtract, Expr, int, name, unary, binary, Action, assign, stop}
+use Rattle.std.specs.Prelude.{◌≡◌, ℕ, IsTrue, List, ◌∷◌, ◌++◌, codes}
+use Rattle.text_base.specs.Chars.{is_name}
+use Rattle.text_base.specs.Constants.{SpellsOperand, IsSign, IsOperator}
+use Rattle.text_base.specs.Trees.{UnaryOp, BinaryOp, Expr, name, unary, binary, Action, assign, stop}
 
 -- a statement by itself
 pub data Statement : Type 0 where
@@ -11,27 +10,6 @@ pub data Statement : Type 0 where
   action : Action → Statement
   continue : Statement
   end : Statement
-
--- an integer constant: digits, with any number of leading zeros (X3.9 section 4.3.1)
-pub record IsConstant (text : List ℕ) (value : ℕ) : Type 0 where
-  pub some : 0 < length text
-  pub digits : IsTrue (list_all is_digit text)
-  pub is : value ≡ digits_value 10 text
-  pub within : value ≤ 2147483647
-
--- an operand of a sum: a constant or a variable
-pub data SpellsOperand (text : List ℕ) (e : Expr) : Type 0 where
-  spells_constant : {v : ℕ} → IsConstant text v → e ≡ int (pos v) → SpellsOperand text e
-  spells_variable : IsTrue (is_name text) → e ≡ name text → SpellsOperand text e
-
--- the two signs
-pub data IsSign (c : ℕ) : UnaryOp → Type 0 where
-  is_plus : c ≡ 43 → IsSign c plus
-  is_minus : c ≡ 45 → IsSign c minus
-
-pub data IsOperator (c : ℕ) : BinaryOp → Type 0 where
-  is_add : c ≡ 43 → IsOperator c add
-  is_subtract : c ≡ 45 → IsOperator c subtract
 
 -- An arithmetic expression: an operand, which may have a sign, or an expression, an operator and an operand, so that
 -- operators group from the left and a sign belongs to the first operand (X3.9 section 6.1.2).

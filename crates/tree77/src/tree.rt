@@ -26,7 +26,7 @@ pub enum Expr {
 }
 
 /// A simple statement: an assignment has the variable and the expression (X3.9 section 10.1); CONTINUE
-/// (section 11.11) and STOP (section 11.12) have nothing.
+/// (X3.9 section 11.11) and STOP (X3.9 section 11.12) have nothing.
 #[derive(Debug, Drop)]
 pub enum Stmt77 {
     Assign(Expr, Expr),

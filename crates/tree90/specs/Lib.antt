@@ -2,3 +2,5 @@ pub mod Tree
 pub mod Plain
 pub mod Printed
 pub mod Meaning
+pub mod FreeText
+pub mod Proper

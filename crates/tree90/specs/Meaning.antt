@@ -86,7 +86,7 @@ module _ (memory : Memory Objects) (call : Call Objects) where
 
   abbrev pub body : Code → ℕ → Objects → Out Objects How
   body done n w = gives n w normal
-  body (item s rest) n w = bind (stmt s n w) (λ n w h. next h (body rest) n w)
+  body (item remarks s rest) n w = bind (stmt s n w) (λ n w h. next h (body rest) n w)
 
 -- the END of the unit is counted
 abbrev pub unit_end : ℕ → Objects → How → Out Objects (Unit {0})
@@ -103,7 +103,7 @@ object_of home (integer_object x) = record { home = home; name = x; cells = inte
 abbrev pub start90 : FreeProgram → Objects
 start90 p = flat_map (λ (unit : FreeUnit). map (object_of unit.name) unit.declared) p.units
 
--- the END of a main program is a STOP without code (section 11.1)
+-- the END of a main program is a STOP without code (ISO/IEC 1539:1991 section 11.1)
 abbrev pub stop_at_end : ℕ → Objects → Unit {0} → Final Objects
 stop_at_end n w e = ended w None
 

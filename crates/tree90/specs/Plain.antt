@@ -1,7 +1,7 @@
 -- The declared tree as the plain one, in which each item has exactly one statement.
-use Rattle.std.specs.Prelude.{ℕ, List, [], ◌∷◌, map}
+use Rattle.std.specs.Prelude.{ℕ, List, [], ◌∷◌, ◌++◌, map}
 use Rattle.text_base.specs.Trees as t
-use Rattle.tree90.specs.Tree.{Stmt, simple, Code, done, item, Declared, integer_object, FreeUnit, FreeProgram}
+use Rattle.tree90.specs.Tree.{Remark, Stmt, simple, Code, done, item, Declared, integer_object, FreeUnit, FreeProgram}
 use Rattle.tree90.specs.declared.tree.Unary90.{Unary90}
 use Rattle.tree90.specs.declared.tree.Unary90.TheVariants as sign
 use Rattle.tree90.specs.declared.tree.Binary90.{Binary90}
@@ -12,6 +12,7 @@ use Rattle.tree90.specs.declared.tree.Simple90.{Simple90}
 use Rattle.tree90.specs.declared.tree.Simple90.TheVariants.{Assign, Stop}
 use Rattle.tree90.specs.declared.tree.Stmt90.{Stmt90}
 use Rattle.tree90.specs.declared.tree.Stmt90.TheVariants.{Simple}
+use Rattle.tree90.specs.declared.tree.Remark as d
 use Rattle.tree90.specs.declared.tree.Item90.{Item90}
 use Rattle.tree90.specs.declared.tree.Type90.{Type90}
 use Rattle.tree90.specs.declared.tree.Type90.TheVariants.{Integer}
@@ -44,14 +45,28 @@ action_of Stop = t.stop
 abbrev pub stmt_of : Stmt90 → Stmt
 stmt_of (Simple s) = simple (action_of s)
 
--- the statements before those that follow
-abbrev pub stmts_before : List Stmt90 → Code → Code
-stmts_before [] rest = rest
-stmts_before (s ∷ ss) rest = item (stmt_of s) (stmts_before ss rest)
+abbrev pub remark_of : d.Remark → Remark
+remark_of r = record { marked = r.marked; text = r.text }
 
-abbrev pub code_of : List Item90 → Code
-code_of [] = done
-code_of (i ∷ is) = stmts_before i.body (code_of is)
+abbrev pub remarks_of : List d.Remark → List Remark
+remarks_of rs = map remark_of rs
+
+-- a list, and comments that no statement of it follows
+abbrev pub Listed : Type 0
+Listed = Code × List Remark
+
+abbrev pub with_item : List Remark → Stmt → Listed → Listed
+with_item remarks s rest = (item remarks s rest.0, rest.1)
+
+-- The statements of an item, with the comments before them, before the items that follow. Where it has no statement
+-- the comments go on to those.
+abbrev pub body_of : List Remark → List Stmt90 → (List Remark → Listed) → Listed
+body_of remarks [] rest = rest remarks
+body_of remarks (s ∷ ss) rest = with_item remarks (stmt_of s) (body_of [] ss rest)
+
+abbrev pub listed_of : List Remark → List Item90 → Listed
+listed_of remarks [] = (done, remarks)
+listed_of remarks (i ∷ is) = body_of (remarks ++ remarks_of i.comments) i.body (λ left. listed_of left is)
 
 abbrev pub object_of : Type90 → List ℕ → Declared
 object_of Integer x = integer_object x
@@ -60,7 +75,14 @@ abbrev pub declared_of : Declared90 → Declared
 declared_of (Object type x) = object_of type x
 
 abbrev pub unit_of : Unit90 → FreeUnit
-unit_of u = record { name = u.name; declared = map declared_of u.declared; code = code_of u.items }
+unit_of u = let listed = listed_of [] u.items in record {
+  head = remarks_of u.head;
+  name = u.name;
+  inner = remarks_of u.inner;
+  declared = map declared_of u.declared;
+  code = listed.0;
+  tail = listed.1 ++ remarks_of u.tail;
+}
 
 abbrev pub program_of : Program90 → FreeProgram
-program_of p = record { units = map unit_of p.units }
+program_of p = record { units = map unit_of p.units; tail = remarks_of p.tail }

@@ -1,6 +1,6 @@
 // The tree of a Fortran 90 program.
 use sqlite_items::{Boxed, Items};
-use text_base::Name;
+use text_base::{Bytes, Name};
 
 /// A sign (ISO/IEC 1539:1991 section 7.1.1).
 #[derive(Clone, Copy, Debug, PartialEq, Eq)]
@@ -9,14 +9,14 @@ pub enum Unary90 {
     Minus,
 }
 
-/// An operator between two operands (section 7.1.1).
+/// An operator between two operands (ISO/IEC 1539:1991 section 7.1.1).
 #[derive(Clone, Copy, Debug, PartialEq, Eq)]
 pub enum Binary90 {
     Plus,
     Minus,
 }
 
-/// An expression (section 7.1): an integer constant, a variable, a signed operand, a sum or a difference.
+/// An expression (ISO/IEC 1539:1991 section 7.1): an integer constant, a variable, a signed operand, a sum or a difference.
 #[derive(Debug, Drop)]
 pub enum Expr90 {
     Int(i32),
@@ -25,7 +25,7 @@ pub enum Expr90 {
     Binary(Binary90, Boxed<Expr90>, Boxed<Expr90>),
 }
 
-/// A simple statement: an assignment has the variable and the expression (section 7.5.1); STOP (section 8.4)
+/// A simple statement: an assignment has the variable and the expression (ISO/IEC 1539:1991 section 7.5.1); STOP (ISO/IEC 1539:1991 section 8.4)
 /// has nothing.
 #[derive(Debug, Drop)]
 pub enum Simple90 {
@@ -42,22 +42,33 @@ pub enum Stmt90 {
 /// A list of statements, which contracts see as the list.
 pub type Stmts90 = Items<Stmt90>;
 
-/// The statements that stand for one item of a source list: none for a CONTINUE.
+/// A comment (ISO/IEC 1539:1991 section 3.3.1.1): a marked one is written as `!` and its text, a blank one as its text.
+#[derive(Debug, Drop)]
+pub struct Remark {
+    pub marked: bool,
+    pub text: Bytes,
+}
+
+/// A list of comments, which contracts see as the list.
+pub type Comments = Items<Remark>;
+
+/// The comments before one item of a source list, and the statements that stand for it: none for a CONTINUE.
 #[derive(Debug, Drop)]
 pub struct Item90 {
+    pub comments: Comments,
     pub body: Stmts90,
 }
 
 /// A list of items, which contracts see as the list.
 pub type Items90 = Items<Item90>;
 
-/// The type of an object (section 5.1.1).
+/// The type of an object (ISO/IEC 1539:1991 section 5.1.1).
 #[derive(Clone, Copy, Debug, PartialEq, Eq)]
 pub enum Type90 {
     Integer,
 }
 
-/// A declaration: a scalar object has its type and its name (section 5.1).
+/// A declaration: a scalar object has its type and its name (ISO/IEC 1539:1991 section 5.1).
 #[derive(Debug, Drop)]
 pub enum Declared90 {
     Object(Type90, Name),
@@ -66,26 +77,31 @@ pub enum Declared90 {
 /// A list of declarations, which contracts see as the list.
 pub type Declared90s = Items<Declared90>;
 
-/// The kind of a program unit (section 2.2).
+/// The kind of a program unit (ISO/IEC 1539:1991 section 2.2).
 #[derive(Clone, Copy, Debug, PartialEq, Eq)]
 pub enum UnitKind90 {
     Main,
 }
 
-/// A program unit: its kind, its name, its declarations and its executable statements.
+/// A program unit: its kind, its name, its declarations and its executable statements, and the comments
+/// before its header line, right after it, and before its END line.
 #[derive(Debug, Drop)]
 pub struct Unit90 {
     pub kind: UnitKind90,
     pub name: Name,
     pub declared: Declared90s,
     pub items: Items90,
+    pub head: Comments,
+    pub inner: Comments,
+    pub tail: Comments,
 }
 
 /// A list of units, which contracts see as the list.
 pub type Unit90s = Items<Unit90>;
 
-/// A program.
+/// A program: its units, and the comments after the last of them.
 #[derive(Debug, Drop)]
 pub struct Program90 {
     pub units: Unit90s,
+    pub tail: Comments,
 }

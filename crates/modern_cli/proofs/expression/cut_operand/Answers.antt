@@ -1,4 +1,4 @@
-use Rattle.std.proofs.Common.{◌≡◌, true, take, drop, ap, sym, ◌∙◌, subst}
+use Rattle.std.proofs.Common.{take, drop, ap, sym, ◌∙◌, subst}
 use Rattle.std.specs.List.{list_all}
 use Rattle.tree77.specs.Reading.{is_inner, Stops}
 use Rattle.modern_cli.proofs.OperandLemmas.{inner_front, stops_behind}

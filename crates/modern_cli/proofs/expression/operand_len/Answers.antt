@@ -1,4 +1,4 @@
-use Rattle.std.proofs.Common.{◌≡◌, None, sym, ◌∙◌}
+use Rattle.std.proofs.Common.{sym, ◌∙◌}
 use Rattle.modern_cli.proofs.OperandLemmas.{all_inner}
 use Rattle.modern_cli.proofs.expression.operand_len.Goals as goal
 

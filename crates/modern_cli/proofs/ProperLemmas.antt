@@ -1,0 +1,116 @@
+-- What is written for a source is proper.
+use Rattle.std.proofs.Common.{◌≡◌, ℕ, ◌+◌, true, not, List, [], ◌∷◌, ◌++◌, map, refl, sym, ap, ◌∙◌, subst}
+use Rattle.std.specs.List.{list_all}
+use Rattle.std.specs.Str.{bytes_eq}
+use Rattle.std.proofs.lemmas.List.{append-nil}
+use Rattle.std.proofs.lemmas.List.Folds.{list_all-map}
+use Rattle.text_base.specs.Cards.{Comment, cut, comments}
+use Rattle.text_base.specs.Chars.{is_name}
+use Rattle.text_base.specs.Trees.{Expr, int, name, unary, binary, assign, stop}
+use Rattle.tree77.specs.Tree.{simple, continue, Code, done, item, SourceUnit, SourceProgram}
+use Rattle.tree77.specs.Typing as source
+use Rattle.tree77.specs.Typing.{first_seen, variables, is_integer_name, is_variable, is_typed}
+use Rattle.tree90.specs.Tree.{Remark, integer_object}
+use Rattle.tree90.specs.Printed.{printed}
+use Rattle.tree90.specs.Proper as p
+use Rattle.tree90.specs.Proper.{declared_name, is_among, are_distinct, IsWritableUnit, IsWritable, IsProper}
+use Rattle.modern_cli.specs.Written.{remark_of, comments_from, remarks_at, written_list, written_unit, sizes_of, written}
+use Rattle.modern_cli.specs.WrittenProper.{WrittenIsProper}
+use Rattle.modern_cli.proofs.Names.{both_true, true_both, distinct_first_seen}
+use Rattle.modern_cli.proofs.Seen.{all_implied, all_first, apart_from_all, are_distinct_names, all_are_seen}
+use Rattle.modern_cli.proofs.ShortPieces.{is_short, short_nothing, short_append}
+use Rattle.modern_cli.proofs.ShortRemarks.{are_short_comments, are_writable, remarks_are_short, remarks_of_comments, remarks_at_are_short, comments_from_are_short, comments_are_short}
+use Rattle.modern_cli.proofs.ShortLineLemmas.{ShortUnit, unit_is_spelled, unit_lines}
+
+-- ---- names
+
+-- both languages have the same names in an expression
+same_names : (e : Expr) → p.expr_names e ≡ source.expr_names e
+same_names (int v) = refl
+same_names (name x) = refl
+same_names (unary op a) = same_names a
+same_names (binary op a b) = λ i. same_names a i ++ same_names b i
+
+-- the names of what is written for a list are those of the list
+written_names : (cs : List Comment) (k : ℕ) (left : List Remark) (code : Code) → p.code_names (written_list cs k left code).0 ≡ source.code_names code
+written_names cs k left done = refl
+written_names cs k left (item label here (simple (assign d e)) rest) = λ i. (same_names d i ++ same_names e i) ++ written_names cs (k + 1) [] rest i
+written_names cs k left (item label here (simple stop) rest) = written_names cs (k + 1) [] rest
+written_names cs k left (item label here continue rest) = written_names cs (k + 1) _ rest
+
+-- declared objects have the names that they are made of
+declared_names : (xs : List (List ℕ)) → map declared_name (map integer_object xs) ≡ xs
+declared_names [] = refl
+declared_names (x ∷ xs) = ap (λ ys. x ∷ ys) (declared_names xs)
+
+-- a unit's name differs from its variables
+name_is_apart : (u : SourceUnit) → is_typed u ≡ true → not (is_among (variables u) u.name) ≡ true
+name_is_apart u typed =
+    apart_from_all u.name (variables u) (all_first (λ y. not (bytes_eq u.name y)) (source.code_names u.code)
+    (all_implied (is_variable u.name) (λ y. not (bytes_eq u.name y)) (λ y e. (both_true (is_integer_name y) (not (bytes_eq u.name y)) e).1) (source.code_names u.code) typed))
+
+-- a unit's name and its variables are distinct
+names_are_distinct : (u : SourceUnit) → is_typed u ≡ true → are_distinct (u.name ∷ map declared_name (map integer_object (variables u))) ≡ true
+names_are_distinct u typed =
+    ap (λ xs. are_distinct (u.name ∷ xs)) (declared_names (variables u))
+    ∙ true_both (not (is_among (variables u) u.name)) (are_distinct (variables u)) (name_is_apart u typed)
+    (are_distinct_names (variables u) (distinct_first_seen (source.code_names u.code)))
+
+-- each name of what is written for a unit is declared
+names_are_declared : (cs : List Comment) (first : ℕ) (u : SourceUnit)
+    → list_all (is_among (map declared_name (map integer_object (variables u)))) (p.code_names (written_unit cs first u).code) ≡ true
+names_are_declared cs first u =
+    ap (λ xs. list_all (is_among xs) (p.code_names (written_unit cs first u).code)) (declared_names (variables u))
+    ∙ ap (list_all (is_among (variables u))) (written_names (comments_from cs (first + 2)) (first + 1) [] u.code)
+    ∙ all_are_seen (source.code_names u.code)
+
+-- declared objects that are made of names have names
+declared_are_named : (xs : List (List ℕ)) → list_all is_name xs ≡ true → list_all (λ d. is_name (declared_name d)) (map integer_object xs) ≡ true
+declared_are_named xs e = list_all-map (λ d. is_name (declared_name d)) integer_object xs ∙ e
+
+-- ---- programs
+
+-- what is written for a unit can be written
+unit_is_writable : (cs : List Comment) (first : ℕ) (u : SourceUnit) → are_short_comments cs ≡ true → ShortUnit u → IsWritableUnit (written_unit cs first u)
+unit_is_writable cs first u short s =
+    let listed = s.listed (comments_from cs (first + 2)) (first + 1) [] (comments_from_are_short cs (first + 2) short) refl in
+    record {
+      head = are_writable (remarks_at cs first) (remarks_at_are_short cs first short);
+      named = s.named;
+      inner = are_writable (remarks_at cs (first + 1)) (remarks_at_are_short cs (first + 1) short);
+      declared = declared_are_named (variables u) (all_first is_name (source.code_names u.code) s.names);
+      code = listed.writable;
+      tail = are_writable (written_unit cs first u).tail listed.tail;
+    }
+
+-- the lines of what is written for one unit are short
+lines_are_short : (cs : List Comment) (u : SourceUnit) → are_short_comments cs ≡ true → ShortUnit u → list_all is_short (cut (printed (written cs (record { units = u ∷ [] })))) ≡ true
+lines_are_short cs u short s =
+    let last : List Remark = map remark_of (comments_from cs (sizes_of (u ∷ []))) in
+    let all = short_append (short_append (unit_lines cs 0 u short s) short_nothing)
+    (remarks_are_short last (remarks_of_comments (comments_from cs (sizes_of (u ∷ []))) (comments_from_are_short cs (sizes_of (u ∷ [])) short))) in
+    subst (λ t. list_all is_short (cut t) ≡ true) (append-nil (printed (written cs (record { units = u ∷ [] })))) (all.before [] refl)
+
+-- what is written for one unit can be written
+program_is_writable : (cs : List Comment) (u : SourceUnit) → are_short_comments cs ≡ true → ShortUnit u → IsWritable (written cs (record { units = u ∷ [] }))
+program_is_writable cs u short s = record {
+  units = (unit_is_writable cs 0 u short s, tt);
+  tail = are_writable (map remark_of (comments_from cs (sizes_of (u ∷ [])))) (remarks_of_comments (comments_from cs (sizes_of (u ∷ []))) (comments_from_are_short cs (sizes_of (u ∷ [])) short));
+  short = lines_are_short cs u short s;
+}
+
+-- what is written for one unit is proper
+program_is_proper : (cs : List Comment) (u : SourceUnit) → are_short_comments cs ≡ true → ShortUnit u → is_typed u ≡ true → IsProper (written cs (record { units = u ∷ [] }))
+program_is_proper cs u short s typed = record {
+  unit = written_unit cs 0 u;
+  whole = refl;
+  writable = program_is_writable cs u short s;
+  distinct = names_are_distinct u typed;
+  declared = names_are_declared cs 0 u;
+}
+
+-- what is written for a source is proper
+pub written_is_proper : WrittenIsProper
+written_is_proper bytes q s =
+    subst (λ (r : SourceProgram). IsProper (written (comments bytes) r)) (sym s.whole)
+    (program_is_proper (comments bytes) s.unit (comments_are_short bytes s.readable) (unit_is_spelled bytes s.unit s.spelled) s.typed)
