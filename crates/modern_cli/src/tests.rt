@@ -79,6 +79,20 @@ fn what_is_not_read_is_said(rt: HostRuntime) -> Result<(), Fail> {
 }
 
 #[test]
+fn an_absent_file_is_missing(rt: HostRuntime) -> Result<(), Fail> {
+    let alloc = rt.alloc();
+    let words = words_of(alloc, &["one", "gone.f", "x.f90"])?;
+    let mut shelf = MemoryShelf::new(alloc);
+    let mut out = MemorySink::new(alloc, 7);
+    let status = modern(alloc, &words, &mut shelf, &mut out);
+    assert_eq!(rt; status, Status::Missing);
+    assert_eq!(rt; status.code(), 4);
+    assert_eq!(rt; out.bytes(), b"MISSING gone.f\n".as_slice());
+    assert!(rt; shelf.held("x.f90").is_none());
+    Ok(())
+}
+
+#[test]
 fn a_failing_sink_cuts_the_text(rt: HostRuntime) -> Result<(), Fail> {
     let alloc = rt.alloc();
     // The wanted status, the most bytes of one call, the call that fails, the status that comes, and what is printed.
