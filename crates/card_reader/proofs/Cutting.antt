@@ -4,7 +4,7 @@ use Rattle.std.proofs.lemmas.List.{take-take}
 use Rattle.std.proofs.lemmas.List.Sums.{prefix_len-le-length}
 use Rattle.std.proofs.lemmas.Bool.Decides.{nat_tests}
 use Rattle.std.specs.List.{position, position_or_len}
-use Rattle.text_base.specs.Cards.{cut, with_first}
+use Rattle.text_base.specs.Lines.{cut, with_first}
 
 -- a byte that ends a line
 abbrev pub is_feed : ℕ → Bool

@@ -1,2 +1,3 @@
 pub mod Cutting
-pub mod Sorting
+pub mod Grouping
+pub mod Checking

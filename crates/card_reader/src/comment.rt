@@ -2,9 +2,9 @@
 use sqlite_items::Items;
 use text_base::Bytes;
 
-/// A comment (X3.9 section 3.2.1): whether it has C, c, * or ! in column 1, or is blank; the bytes after
-/// column 1 of a marked one, all the bytes of a blank one; and how many statements of the file stand
-/// before it.
+/// A comment (X3.9 section 3.2.1): whether it is marked, by C, c, * or ! in column 1 or by something after column 72
+/// alone; the bytes after column 1 of a marked one, all the bytes of a blank one; and how many statements of the file
+/// stand before it, to their last lines.
 #[derive(Debug, Drop)]
 pub struct Comment {
     pub marked: bool,

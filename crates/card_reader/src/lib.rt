@@ -3,10 +3,17 @@
 
 mod card;
 mod cards_error;
+mod check;
+mod columns;
 mod comment;
+mod comments;
 mod deck;
+mod fault;
+mod kept;
 mod lines;
 mod reader;
+mod scan;
+mod statements;
 
 pub use card::{Card, Cards};
 pub use cards_error::CardsError;

@@ -36,18 +36,18 @@ texts_are command bytes text map report made =
 pub partly_wrote : (command : Command) (old new : Option Files) (bytes text map report : List ℕ) → HasFile old command.file bytes → IsConversion bytes text map report
     → PartlyWritten (named_texts command.out text map report) old new → IsPartly (Some command) old new
 partly_wrote command old new bytes text map report has made partly =
-    inr (bytes, has, (made.program, made.is_source, subst (λ texts. PartlyWritten texts old new) (texts_are command bytes text map report made) partly))
+    inr (bytes, has, (made.program, made.is_converted, subst (λ texts. PartlyWritten texts old new) (texts_are command bytes text map report made) partly))
 
 -- what is answered, from what was written of a conversion
 pub answered : (status : Status) (command : Command) (old new : Option Files) (bytes text map report : List ℕ) (unwritten : Type 0) (said : List ℕ) → HasFile old command.file bytes
     → IsConversion bytes text map report → Wrote status command (named_texts command.out text map report) report old new unwritten said
     → Answers status (Some command) old new ⊥ ⊥ unwritten said
 answered Done command old new bytes text map report unwritten said has made wrote =
-    (bytes, has, (made.program, made.is_source, wrote.0 ∙ ap (λ texts. with_files texts old) (texts_are command bytes text map report made), wrote.1 ∙ made.is_report))
+    (bytes, has, (made.program, made.is_converted, wrote.0 ∙ ap (λ texts. with_files texts old) (texts_are command bytes text map report made), wrote.1 ∙ made.is_report))
 answered Refused command old new bytes text map report unwritten said has made wrote = absurd wrote
 answered Usage command old new bytes text map report unwritten said has made wrote = absurd wrote
 answered ReadFault command old new bytes text map report unwritten said has made wrote = absurd wrote
 answered Missing command old new bytes text map report unwritten said has made wrote = absurd wrote
 answered WriteFault command old new bytes text map report unwritten said has made wrote =
-    (wrote.0, (bytes, has, (made.program, made.is_source, subst (λ texts. StoppedLine texts old new said) (texts_are command bytes text map report made) wrote.1)))
+    (wrote.0, (bytes, has, (made.program, made.is_converted, subst (λ texts. StoppedLine texts old new said) (texts_are command bytes text map report made) wrote.1)))
 answered Memory command old new bytes text map report unwritten said has made wrote = wrote

@@ -1,7 +1,8 @@
 -- The comments of a file are in order, and lists of comments are cut by how many statements stand before them.
-use Rattle.std.proofs.Common.{◌≡◌, ℕ, ◌+◌, ◌<◌, ◌≤◌, ◌==◌, Bool, true, false, cond, List, [], ◌∷◌, ◌++◌, drop, refl, sym, ap, ◌∙◌, subst, arith}
+use Rattle.std.proofs.Common.{◌≡◌, ℕ, ◌+◌, ◌-◌, ◌<◌, ◌≤◌, ◌==◌, Bool, true, false, not, ◌||◌, cond, List, [], ◌∷◌, ◌++◌, drop, refl, sym, ap, ◌∙◌, subst, arith}
 use Rattle.std.specs.Prelude.{nat_le, nat_lt}
-use Rattle.text_base.specs.Cards.{Comment, comment_of, comments_of, comments, is_comment, is_marked, lines}
+use Rattle.text_base.specs.Lines.{lines, is_blank, is_marked, is_comment, is_initial}
+use Rattle.text_base.specs.Cards.{Comment, comment_of, goes_on, whole_before, comments_of, comments}
 use Rattle.modern_cli.specs.Written.{comments_at, comments_from}
 use Rattle.modern_cli.specs.Remarks.{is_ascending}
 use Rattle.modern_cli.proofs.Names.{both_true, true_both}
@@ -119,24 +120,37 @@ blank_comment k l = record { marked = false; text = l; before = k }
 
 -- a comment has the number that it is given
 before_is : (k : ℕ) (l : List ℕ) → (comment_of k l).before ≡ k
-before_is k l = go (is_marked l)
+before_is k l = go (is_marked l || not (is_blank l))
   where
     go : (b : Bool) → (cond b (marked_comment k l) (blank_comment k l)).before ≡ k
     go true = refl
     go false = refl
 
-pub lines_ascend : (ls : List (List ℕ)) (k : ℕ) → is_ascending k (comments_of k ls) ≡ true
-lines_ascend [] k = refl
-lines_ascend (l ∷ ls) k =
-    go (is_comment l)
-    (true_both _ _ (le_true k (comment_of k l).before (omega (arith, before_is k l))) (subst (λ n. is_ascending n (comments_of k ls) ≡ true) (sym (before_is k l)) (lines_ascend ls k)))
-    (ascending_from (comments_of (k + 1) ls) k (k + 1) (omega arith) (lines_ascend ls (k + 1)))
+-- of the statements that have begun all but one stand whole before the lines, or all
+nearly_whole : (begun : ℕ) (ls : List (List ℕ)) → begun ≤ whole_before begun ls + 1
+nearly_whole begun ls = go (goes_on ls)
   where
-    go : (b : Bool) → is_ascending k (comment_of k l ∷ comments_of k ls) ≡ true → is_ascending k (comments_of (k + 1) ls) ≡ true
-        → is_ascending k (cond b (comment_of k l ∷ comments_of k ls) (comments_of (k + 1) ls)) ≡ true
-    go true with_it without_it = with_it
-    go false with_it without_it = without_it
+    go : (b : Bool) → begun ≤ cond b (begun - 1) begun + 1
+    go true = omega arith
+    go false = omega arith
+
+-- the comments of lines are in order, from the statements on that stand whole before the lines
+lines_ascend : (ls : List (List ℕ)) (begun k : ℕ) → k ≤ whole_before begun ls → is_ascending k (comments_of begun ls) ≡ true
+lines_ascend [] begun k le = refl
+lines_ascend (l ∷ ls) begun k le = go (is_comment l) (is_initial l) le (λ n m. lines_ascend ls n m)
+  where
+    here : ℕ
+    here = whole_before begun ls
+
+    go : (b i : Bool) → k ≤ cond (cond b (goes_on ls) (not i)) (begun - 1) begun
+        → ((n m : ℕ) → m ≤ whole_before n ls → is_ascending m (comments_of n ls) ≡ true)
+        → is_ascending k (cond b (comment_of here l ∷ comments_of begun ls) (comments_of (cond i (begun + 1) begun) ls)) ≡ true
+    go true i le rest =
+        true_both _ _ (le_true k (comment_of here l).before (omega (arith, le, before_is here l)))
+        (subst (λ n. is_ascending n (comments_of begun ls) ≡ true) (sym (before_is here l)) (rest begun here (omega arith)))
+    go false true le rest = rest (begun + 1) k (omega (arith, le, nearly_whole (begun + 1) ls))
+    go false false le rest = rest begun k (omega (arith, le, nearly_whole begun ls))
 
 -- the comments of a file are in order
 pub comments_ascend : (bytes : List ℕ) → is_ascending 0 (comments bytes) ≡ true
-comments_ascend bytes = lines_ascend (lines bytes) 0
+comments_ascend bytes = lines_ascend (lines bytes) 0 0 (omega arith)

@@ -17,7 +17,7 @@ after_le : (n : ℕ) (cs : List ℕ) → n ≤ digits_value_after 10 n cs
 after_le n [] = omega arith
 after_le n (c ∷ cs) = let more = after_le (n * 10 + digit_value c) cs in omega (arith, more)
 
-pub value_of_digit : (c : ℕ) → is_digit c ≡ true → digit_value c + 48 ≡ c
+value_of_digit : (c : ℕ) → is_digit c ≡ true → digit_value c + 48 ≡ c
 value_of_digit c e =
     let parts = both_true (nat_le 48 c) (nat_le c 57) e in
     digit_value_digit c (leb-true 48 c parts.0, leb-true c 57 parts.1)

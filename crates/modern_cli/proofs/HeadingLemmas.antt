@@ -8,12 +8,11 @@ use Rattle.std.proofs.lemmas.Slice.Eq.{bytes_eq-Decides}
 use Rattle.text_base.specs.Files.{Files}
 use Rattle.text_base.specs.Cards.{comments}
 use Rattle.tree77.specs.Tree.{SourceProgram}
-use Rattle.tree77.specs.Source.{IsSource}
 use Rattle.tree90.specs.FreeText.{SpellsText}
 use Rattle.tree90.specs.Proper.{IsProper}
 use Rattle.tree90.proofs.FreeReading.{program_unique}
 use Rattle.tree90.proofs.PrintedLemmas.{printed_is_read}
-use Rattle.modern_cli.specs.Conversion.{program_text, program_map, program_report}
+use Rattle.modern_cli.specs.Conversion.{program_text, program_map, program_report, IsConvertible}
 use Rattle.modern_cli.specs.Written.{written, map_lines}
 use Rattle.modern_cli.specs.Words.{Command, map_name, report_name}
 use Rattle.modern_cli.specs.Outputs.{with_files, outputs}
@@ -47,7 +46,7 @@ get_same files name bytes = get-insert nat_list_cmp_total files name bytes name 
 get_other : (files : Files) (name bytes other : List ℕ) → other ≢ name → get (insert files name bytes) other ≡ get files other
 get_other files name bytes other differ = get-insert nat_list_cmp_total files name bytes other ∙ ap (λ t. cond t (Some bytes) (get files other)) (is_eq-slice_cmp other name ∙ is_eq_false other name differ)
 
-module _ (command : Command) (files : Files) (bytes : List ℕ) (p : SourceProgram) (is_source : IsSource 0 bytes p) where
+module _ (command : Command) (files : Files) (bytes : List ℕ) (p : SourceProgram) (converted : IsConvertible bytes p) where
   -- with the text, with the map too, and with the report too
   abbrev with_text : Files
   with_text = insert files command.out (program_text bytes p)
@@ -56,23 +55,23 @@ module _ (command : Command) (files : Files) (bytes : List ℕ) (p : SourceProgr
   with_map = insert with_text (map_name command.out) (program_map p)
 
   abbrev with_report : Files
-  with_report = insert with_map (report_name command.out) (program_report p)
+  with_report = insert with_map (report_name command.out) (program_report bytes p)
 
   -- the text stands under its name
   text_stays : get with_report command.out ≡ Some (program_text bytes p)
   text_stays =
-      get_other with_map (report_name command.out) (program_report p) command.out (longer command.out (codes ".report") 6 refl)
+      get_other with_map (report_name command.out) (program_report bytes p) command.out (longer command.out (codes ".report") 6 refl)
       ∙ get_other with_text (map_name command.out) (program_map p) command.out (longer command.out (codes ".map") 3 refl)
       ∙ get_same files command.out (program_text bytes p)
 
   -- the map stands under its name
   map_stays : get with_report (map_name command.out) ≡ Some (program_map p)
   map_stays =
-      get_other with_map (report_name command.out) (program_report p) (map_name command.out) (other_length command.out (codes ".map") (codes ".report") 4 2 refl refl)
+      get_other with_map (report_name command.out) (program_report bytes p) (map_name command.out) (other_length command.out (codes ".map") (codes ".report") 4 2 refl refl)
       ∙ get_same with_text (map_name command.out) (program_map p)
 
   proper : IsProper (written (comments bytes) p)
-  proper = written_is_proper bytes p is_source
+  proper = written_is_proper bytes p converted
 
   -- the text is read as the program that is written
   read : SpellsText (program_text bytes p) (written (comments bytes) p)
@@ -82,21 +81,21 @@ module _ (command : Command) (files : Files) (bytes : List ℕ) (p : SourceProgr
   heads : Headline command bytes with_report
   heads = record {
     source = p;
-    is_source = is_source;
+    is_source = converted.is_source;
     program = written (comments bytes) p;
     text = program_text bytes p;
     is_text = text_stays;
     one_reading = record { is_read = read; only = λ other r. program_unique (program_text bytes p) other (written (comments bytes) p) r read; proper = proper };
     lines = map_lines p;
     is_map = map_stays;
-    does_the_same = does_the_same bytes p is_source;
-    comments = comments_kept bytes p is_source;
+    does_the_same = does_the_same bytes p converted.is_source;
+    comments = comments_kept bytes p converted.is_source;
   }
 
 -- where the contents are told
-headline_told : (old : Option Files) (command : Command) (bytes : List ℕ) (p : SourceProgram) → IsSource 0 bytes p → IfSome (with_files (outputs command bytes p) old) (Headline command bytes)
-headline_told None command bytes p is_source = tt
-headline_told (Some files) command bytes p is_source = heads command files bytes p is_source
+headline_told : (old : Option Files) (command : Command) (bytes : List ℕ) (p : SourceProgram) → IsConvertible bytes p → IfSome (with_files (outputs command bytes p) old) (Headline command bytes)
+headline_told None command bytes p converted = tt
+headline_told (Some files) command bytes p converted = heads command files bytes p converted
 
 -- what is held after a conversion
 pub headline : (command : Option Command) (old new : Option Files) → FromFile command old (Converts old new) → FromFile command old (λ c bytes. IfSome new (Headline c bytes))

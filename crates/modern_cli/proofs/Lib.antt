@@ -5,6 +5,9 @@ pub mod Following
 pub mod Mapping
 pub mod Carrying
 pub mod CommentLemmas
+pub mod BuiltLemmas
+pub mod RefusalLemmas
+pub mod CharacterLemmas
 pub mod SizeLemmas
 pub mod PositionLemmas
 pub mod Constants
@@ -13,7 +16,7 @@ pub mod OperandLemmas
 pub mod Seen
 pub mod ShortPieces
 pub mod ShortRemarks
-pub mod ShortSpellings
+pub mod SpellingLemmas
 pub mod ShortLineLemmas
 pub mod ProperLemmas
 pub mod RemarkLemmas

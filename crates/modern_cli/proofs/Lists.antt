@@ -4,12 +4,11 @@ use Rattle.std.specs.List.{list_all}
 use Rattle.std.specs.Option.{option_map, option_and_then}
 use Rattle.std.proofs.lemmas.List.{drop_more, drop_all}
 use Rattle.text_base.specs.Cards as form
-use Rattle.text_base.specs.Chars.{characters}
 use Rattle.card_reader.specs.Views.{card_of}
 use Rattle.card_reader.specs.declared.card.Card.{Card}
 use Rattle.tree77.specs.Tree.{Code, done, item}
 use Rattle.tree77.specs.Plain.{stmt_of, code_of}
-use Rattle.tree77.specs.Reading.{Items, ended_at, join_items, read_statement, read_items}
+use Rattle.tree77.specs.Reading.{Items, ended_at, join_items, read_card, read_items}
 use Rattle.tree77.specs.declared.tree.Item77.{Item77}
 use Rattle.tree77.specs.declared.tree.EndIf.{EndIf}
 use Rattle.modern_cli.specs.StatementViews.{adds}
@@ -33,7 +32,7 @@ code_after-done [] = refl
 code_after-done (x ∷ is) = ap (item x.label x.place (stmt_of x.body)) (code_after-done is)
 
 module _ (items : List Item77) (cards : List Card) (i : ℕ) (card : Card) (step : Step) (all : Option Items) (lt : i < length cards) (is : card ≡ get_or cards i card)
-    (does : (rest : List form.Card) (more : Option Items) → adds step rest more ≡ option_and_then (λ s. join_items (card_of card) s rest more) (read_statement (characters card.text)))
+    (does : (rest : List form.Card) (more : Option Items) → adds step rest more ≡ option_and_then (λ s. join_items (card_of card) s rest more) (read_card (card_of card)))
     (so_far : option_map (after_items items) (read_items (map card_of (drop i cards))) ≡ all) where
   abbrev rest : List form.Card
   rest = map card_of (drop (i + 1) cards)

@@ -1,10 +1,11 @@
--- What is written for a source is proper.
+-- What is written for a source that is converted is proper.
 use Rattle.std.proofs.Common.{◌≡◌, ℕ, ◌+◌, true, not, List, [], ◌∷◌, ◌++◌, map, refl, sym, ap, ◌∙◌, subst}
 use Rattle.std.specs.List.{list_all}
 use Rattle.std.specs.Str.{bytes_eq}
 use Rattle.std.proofs.lemmas.List.{append-nil}
 use Rattle.std.proofs.lemmas.List.Folds.{list_all-map}
-use Rattle.text_base.specs.Cards.{Comment, cut, comments}
+use Rattle.text_base.specs.Lines.{cut}
+use Rattle.text_base.specs.Cards.{Comment, cards, comments}
 use Rattle.text_base.specs.Chars.{is_name}
 use Rattle.text_base.specs.Trees.{Expr, int, name, unary, binary, assign, stop}
 use Rattle.tree77.specs.Tree.{simple, continue, Code, done, item, SourceUnit, SourceProgram}
@@ -17,6 +18,7 @@ use Rattle.tree90.specs.Proper.{declared_name, is_among, are_distinct, IsWritabl
 use Rattle.modern_cli.specs.Written.{remark_of, comments_from, remarks_at, written_list, written_unit, sizes_of, written}
 use Rattle.modern_cli.specs.WrittenProper.{WrittenIsProper}
 use Rattle.modern_cli.proofs.Names.{both_true, true_both, distinct_first_seen}
+use Rattle.modern_cli.proofs.RefusalLemmas.{accepted}
 use Rattle.modern_cli.proofs.Seen.{all_implied, all_first, apart_from_all, are_distinct_names, all_are_seen}
 use Rattle.modern_cli.proofs.ShortPieces.{is_short, short_nothing, short_append}
 use Rattle.modern_cli.proofs.ShortRemarks.{are_short_comments, are_writable, remarks_are_short, remarks_of_comments, remarks_at_are_short, comments_from_are_short, comments_are_short}
@@ -109,8 +111,10 @@ program_is_proper cs u short s typed = record {
   declared = names_are_declared cs 0 u;
 }
 
--- what is written for a source is proper
+-- what is written for a source that is converted is proper
 pub written_is_proper : WrittenIsProper
-written_is_proper bytes q s =
+written_is_proper bytes q c =
+    let s = c.is_source in
+    let unit = unit_is_spelled (cards 0 bytes) s.unit (accepted bytes c.accepted).statements s.spelled in
     subst (λ (r : SourceProgram). IsProper (written (comments bytes) r)) (sym s.whole)
-    (program_is_proper (comments bytes) s.unit (comments_are_short bytes s.readable) (unit_is_spelled bytes s.unit s.spelled) s.typed)
+    (program_is_proper (comments bytes) s.unit (comments_are_short bytes s.accepted) unit s.typed)

@@ -2,8 +2,7 @@
 use Rattle.std.proofs.Common.{◌≡◌, ◌⊎◌, inl, inr, ℕ, List, Option, sym, subst}
 use Rattle.text_base.specs.Files.{Files}
 use Rattle.tree77.specs.Tree.{SourceProgram}
-use Rattle.tree77.specs.Source.{IsSource}
-use Rattle.modern_cli.specs.Conversion.{program_report}
+use Rattle.modern_cli.specs.Conversion.{program_report, IsConvertible}
 use Rattle.modern_cli.specs.Words.{Command}
 use Rattle.modern_cli.specs.Lines.{IsReport, IsRefusalText}
 use Rattle.modern_cli.specs.Answers.{Answers, IsMain}
@@ -23,7 +22,7 @@ module _ (command : Option Command) (old new : Option Files) (unread absent unwr
 
   -- the text of a conversion is a report
   report_of : At Done → IsReport command old whole
-  report_of answers = from_more command old _ (λ c bytes. (p : SourceProgram) × IsSource 0 bytes p × (whole ≡ program_report p)) (λ c bytes p. (p.0, p.1, p.3)) answers
+  report_of answers = from_more command old _ (λ c bytes. (p : SourceProgram) × IsConvertible bytes p × (whole ≡ program_report bytes p)) (λ c bytes p. (p.0, p.1, p.3)) answers
 
   -- the text is that of an answer, whole or in part
   put : (wanted : Status) → At wanted → (IsMain wanted → text ≡ whole) → PrintsLine (failed ⊎ denied) whole text → Printed wanted

@@ -1,63 +1,31 @@
 -- The lines that are written for a source are short.
-use Rattle.std.proofs.Common.{◌≡◌, ℕ, suc, ◌+◌, ◌-◌, ◌≤◌, ◌==◌, Bool, true, false, not, cond, List, [], ◌∷◌, ◌++◌, length, take, drop, map, filter, codes, refl, ◌∙◌, arith, length-append}
+use Rattle.std.proofs.Common.{◌≡◌, ℕ, ◌+◌, ◌≤◌, true, List, [], ◌∷◌, ◌++◌, length, map, codes, Option, refl, ◌∙◌, subst, arith, length-append}
 use Rattle.std.specs.Prelude.{replicate, flat_map}
-use Rattle.std.specs.List.{list_all, enumerate_from}
+use Rattle.std.specs.List.{list_all}
+use Rattle.std.proofs.lemmas.Bool.{leb-true}
 use Rattle.std.proofs.lemmas.List.Folds.{list_all-append}
-use Rattle.std.proofs.lemmas.List.{length-map, length-take, length-replicate}
-use Rattle.text_base.specs.Cards.{Card, Comment, is_comment, statement_field, lines, cards_of, cards}
-use Rattle.text_base.specs.Chars.{is_name, to_upper, without_blanks, characters}
+use Rattle.text_base.specs.Cards.{Card, Comment}
+use Rattle.text_base.specs.Chars.{is_name}
 use Rattle.text_base.specs.Trees.{Action}
 use Rattle.text_base.specs.declared.refusal.Place.{Place}
+use Rattle.tree77.specs.Spelling.{action}
 use Rattle.tree77.specs.Tree.{simple, continue, Code, done, item, SourceUnit}
 use Rattle.tree77.specs.Typing.{action_names, code_names, variables}
-use Rattle.tree77.specs.Source.{SpellsItems, SpellsUnit}
+use Rattle.tree77.specs.Source.{SpellsCard, SpellsItems, SpellsUnit}
+use Rattle.tree77.proofs.SourceReading.{card_read}
 use Rattle.tree90.specs.Tree as free
 use Rattle.tree90.specs.Tree.{Remark, integer_object}
 use Rattle.tree90.specs.Plain.{Listed, with_item}
-use Rattle.tree90.specs.Printed.{action_text, declared_text, code_text, unit_text}
+use Rattle.tree90.specs.Printed.{action_text, stmt_text, declared_text, code_text, unit_text}
 use Rattle.tree90.specs.Proper.{IsWritableCode}
+use Rattle.modern_cli.specs.Refusals.{program_name, is_free_name, is_short, is_built_as, is_built, statement_refusals}
 use Rattle.modern_cli.specs.Written.{comments_from, remarks_at, written_list, written_unit}
 use Rattle.modern_cli.proofs.Names.{both_true, true_both}
+use Rattle.modern_cli.proofs.RefusalLemmas.{all_built}
 use Rattle.modern_cli.proofs.Seen.{all_first}
 use Rattle.modern_cli.proofs.ShortPieces.{has_no_feed, no_feed_append, no_feed_name, name_is_short, IsShortLines, short_nothing, short_append, short_indented}
 use Rattle.modern_cli.proofs.ShortRemarks.{are_short_remarks, are_short_comments, are_writable, remarks_append, remarks_are_short, remarks_at_are_short, comments_from_are_short}
-use Rattle.modern_cli.proofs.ShortSpellings.{ShortAction, action_is_short, header_is_named}
-
--- a list with some left out is no longer
-filtered_length : (p : ℕ → Bool) (xs : List ℕ) → length (filter p xs) ≤ length xs
-filtered_length p [] = omega arith
-filtered_length p (x ∷ xs) = go (p x) (filtered_length p xs)
-  where
-    go : (b : Bool) → length (filter p xs) ≤ length xs → length (cond b (x ∷ filter p xs) (filter p xs)) ≤ suc (length xs)
-    go true le = omega (arith, le)
-    go false le = omega (arith, le)
-
--- cards of 66 characters at most
-abbrev AreCards : List Card → Type 0
-AreCards [] = Unit {0}
-AreCards (card ∷ rest) = (length card.text ≤ 66) × AreCards rest
-
--- columns 7 to 72 are 66 characters
-field_length : (l : List ℕ) → length (statement_field l) ≤ 66
-field_length l =
-    let text : List ℕ = take 66 (drop 6 l) in
-    let taken : length text ≤ 66 = omega (arith, length-take 66 (drop 6 l)) in
-    omega (arith, length-append text (replicate (66 - length text) 32), length-replicate {A = ℕ} (66 - length text) 32, taken)
-
--- the cards of a file are such cards
-cards_are_short : (file first : ℕ) (ls : List (List ℕ)) → AreCards (cards_of file first ls)
-cards_are_short file first [] = tt
-cards_are_short file first (l ∷ ls) = go (is_comment l) (field_length l) (cards_are_short file (first + 1) ls)
-  where
-    go : (b : Bool) → length (statement_field l) ≤ 66 → AreCards (cards_of file (first + 1) ls)
-        → AreCards (map (λ (q : ℕ × List ℕ). record { text = statement_field q.1; place = record { file = file; line = q.0 } }) (cond (not b) ((first, l) ∷ filter (λ (q : ℕ × List ℕ). not (is_comment q.1)) (enumerate_from (first + 1) ls)) (filter (λ (q : ℕ × List ℕ). not (is_comment q.1)) (enumerate_from (first + 1) ls))))
-    go true short rest = rest
-    go false short rest = (short, rest)
-
--- characters without blanks are no more than those of the card
-characters_length : (text : List ℕ) → length text ≤ 66 → length (characters text) ≤ 66
-characters_length text le =
-    omega (arith, length-map (without_blanks text) to_upper, filtered_length (λ c. not (c == 32)) text, le)
+use Rattle.modern_cli.proofs.SpellingLemmas.{PlainAction, action_is_plain, header_is_named}
 
 -- what is written for a list can be written, in short lines
 pub record ShortListed (r : Listed) : Type 0 where
@@ -74,32 +42,42 @@ IsShortCode code =
 left_and_here : (cs : List Comment) (k : ℕ) (left : List Remark) → are_short_comments cs ≡ true → are_short_remarks left ≡ true → are_short_remarks (left ++ remarks_at cs k) ≡ true
 left_and_here cs k left short e = remarks_append left (remarks_at cs k) e (remarks_at_are_short cs k short)
 
+-- the line of a statement that can be converted fits
+line_fits : (a : Action) → is_short a ≡ true → 2 + length (action_text a) ≤ 132
+line_fits a e = omega (arith, leb-true (length (stmt_text 1 (free.simple a))) 133 e, length-append (32 ∷ 32 ∷ action_text a) (10 ∷ []))
+
 -- a statement before a list, with the comments before it
-action_and_more : (remarks : List Remark) (a : Action) (more : Listed) → are_short_remarks remarks ≡ true → ShortAction a → ShortListed more → ShortListed (with_item remarks (free.simple a) more)
-action_and_more remarks a more short one rest = record {
-  printed_short = short_append (short_append (remarks_are_short remarks short) (short_indented 2 (action_text a) one.plain (omega (arith, one.short)))) rest.printed_short;
+action_and_more : (remarks : List Remark) (a : Action) (more : Listed) → are_short_remarks remarks ≡ true → is_short a ≡ true → PlainAction a → ShortListed more → ShortListed (with_item remarks (free.simple a) more)
+action_and_more remarks a more short fits one rest = record {
+  printed_short = short_append (short_append (remarks_are_short remarks short) (short_indented 2 (action_text a) one.plain (line_fits a fits))) rest.printed_short;
   writable = (are_writable remarks short, one.writable, rest.writable);
   tail = rest.tail;
 }
 
--- what is written for the statements that cards spell is short
-code_is_short : (cards : List Card) (code : Code) (last : Place) → AreCards cards → SpellsItems cards code last → IsShortCode code
-code_is_short [] code last are s = absurd s
-code_is_short (card ∷ rest) done last are s = λ cs k left short e. record { printed_short = short_nothing; writable = tt; tail = left_and_here cs k left short e }
-code_is_short (card ∷ rest) (item label here (simple a) more) last are s = λ cs k left short e.
+-- a statement that can be converted is short
+built_is_short : (unit : Option (List ℕ)) (card : Card) (a : Action) → is_built unit card ≡ true → SpellsCard card (action a) → is_short a ≡ true
+built_is_short unit card a built spelled =
+    (both_true (list_all (is_free_name unit) (action_names a)) (is_short a) (subst (λ o. is_built_as unit o ≡ true) (card_read card (action a) spelled) built)).1
+
+-- what is written for the statements that cards spell is short where they can be converted
+code_is_short : (unit : Option (List ℕ)) (cards : List Card) (code : Code) (last : Place) → list_all (is_built unit) cards ≡ true → SpellsItems cards code last → IsShortCode code
+code_is_short unit [] code last built s = absurd s
+code_is_short unit (card ∷ rest) done last built s = λ cs k left short e. record { printed_short = short_nothing; writable = tt; tail = left_and_here cs k left short e }
+code_is_short unit (card ∷ rest) (item label here (simple a) more) last built s = λ cs k left short e.
+    let b = both_true (is_built unit card) (list_all (is_built unit) rest) built in
     action_and_more (left ++ remarks_at cs k) a (written_list cs (k + 1) [] more) (left_and_here cs k left short e)
-    (action_is_short (characters card.text) a (characters_length card.text are.0) s.0) (code_is_short rest more last are.1 s.3 cs (k + 1) [] short refl)
-code_is_short (card ∷ rest) (item label here continue more) last are s = λ cs k left short e.
-    code_is_short rest more last are.1 s.3 cs (k + 1) (left ++ remarks_at cs k) short (left_and_here cs k left short e)
+    (built_is_short unit card a b.0 s.0) (action_is_plain _ a s.0.1) (code_is_short unit rest more last b.1 s.3 cs (k + 1) [] short refl)
+code_is_short unit (card ∷ rest) (item label here continue more) last built s = λ cs k left short e.
+    let b = both_true (is_built unit card) (list_all (is_built unit) rest) built in
+    code_is_short unit rest more last b.1 s.3 cs (k + 1) (left ++ remarks_at cs k) short (left_and_here cs k left short e)
 
 -- the statements that cards spell refer to names alone
-code_is_named : (cards : List Card) (code : Code) (last : Place) → AreCards cards → SpellsItems cards code last → list_all is_name (code_names code) ≡ true
-code_is_named [] code last are s = absurd s
-code_is_named (card ∷ rest) done last are s = refl
-code_is_named (card ∷ rest) (item label here (simple a) more) last are s =
-    let one = action_is_short (characters card.text) a (characters_length card.text are.0) s.0 in
-    list_all-append is_name (action_names a) (code_names more) ∙ true_both _ _ one.named (code_is_named rest more last are.1 s.3)
-code_is_named (card ∷ rest) (item label here continue more) last are s = code_is_named rest more last are.1 s.3
+code_is_named : (cards : List Card) (code : Code) (last : Place) → SpellsItems cards code last → list_all is_name (code_names code) ≡ true
+code_is_named [] code last s = absurd s
+code_is_named (card ∷ rest) done last s = refl
+code_is_named (card ∷ rest) (item label here (simple a) more) last s =
+    list_all-append is_name (action_names a) (code_names more) ∙ true_both _ _ (action_is_plain _ a s.0.1).named (code_is_named rest more last s.3)
+code_is_named (card ∷ rest) (item label here continue more) last s = code_is_named rest more last s.3
 
 -- ---- declarations
 
@@ -138,15 +116,15 @@ unit_lines cs first u short s =
     (remarks_are_short _ listed.tail))
     (word_and_name 0 (codes "END PROGRAM ") u.name refl (omega arith) s.named)
 
--- the unit that cards spell is such a unit
-cards_are_unit : (cards : List Card) (u : SourceUnit) → AreCards cards → SpellsUnit cards u → ShortUnit u
-cards_are_unit [] u are s = absurd s
-cards_are_unit (card ∷ rest) u are s = record {
-  named = header_is_named (characters card.text) u.name s.0;
-  names = code_is_named rest u.code u.end are.1 s.2;
-  listed = code_is_short rest u.code u.end are.1 s.2;
+-- the unit that cards spell is such a unit where they can be converted
+cards_are_unit : (unit : Option (List ℕ)) (cards : List Card) (u : SourceUnit) → list_all (is_built unit) cards ≡ true → SpellsUnit cards u → ShortUnit u
+cards_are_unit unit [] u built s = absurd s
+cards_are_unit unit (card ∷ rest) u built s = record {
+  named = header_is_named _ u.name s.0.1;
+  names = code_is_named rest u.code u.end s.2;
+  listed = code_is_short unit rest u.code u.end (both_true (is_built unit card) (list_all (is_built unit) rest) built).1 s.2;
 }
 
--- the unit that a file spells is such a unit
-pub unit_is_spelled : (bytes : List ℕ) (u : SourceUnit) → SpellsUnit (cards 0 bytes) u → ShortUnit u
-unit_is_spelled bytes u s = cards_are_unit (cards 0 bytes) u (cards_are_short 0 1 (lines bytes)) s
+-- so is the unit that cards spell of which none is refused
+pub unit_is_spelled : (cards : List Card) (u : SourceUnit) → statement_refusals cards ≡ [] → SpellsUnit cards u → ShortUnit u
+unit_is_spelled cards u none s = cards_are_unit (program_name cards) cards u (all_built (program_name cards) cards none) s

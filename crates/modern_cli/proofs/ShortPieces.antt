@@ -4,7 +4,7 @@ use Rattle.std.specs.Prelude.{nat_le, replicate, slice_index, if◌then◌else�
 use Rattle.std.specs.List.{list_all}
 use Rattle.std.proofs.lemmas.Bool.{eqb-true, not-true, leb-true}
 use Rattle.std.proofs.lemmas.List.{length-replicate}
-use Rattle.text_base.specs.Cards.{with_first, cut}
+use Rattle.text_base.specs.Lines.{with_first, cut}
 use Rattle.text_base.specs.Chars.{is_upper, is_name_byte, is_name}
 use Rattle.modern_cli.proofs.Names.{both_true, true_both}
 

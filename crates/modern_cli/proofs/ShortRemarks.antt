@@ -1,23 +1,28 @@
 -- The comments of a file can be written, and each is a short line.
-use Rattle.std.proofs.Common.{◌≡◌, ℕ, ◌+◌, ◌-◌, ◌≤◌, ◌==◌, Bool, true, false, not, ◌&&◌, ◌||◌, List, [], ◌∷◌, ◌++◌, length, take, drop, map, refl, ap, ◌∙◌, arith, le-leb}
-use Rattle.std.specs.Prelude.{nat_le, slice_index, if◌then◌else◌}
+use Rattle.std.proofs.Common.{◌≡◌, ℕ, ◌+◌, ◌-◌, ◌==◌, Bool, true, false, cond, not, ◌&&◌, ◌||◌, List, [], ◌∷◌, ◌++◌, length, take, drop, map, Option, Some, None, refl, ap, ◌∙◌, arith}
+use Rattle.std.specs.Prelude.{nat_le, nat_lt, decimal, slice_index, if◌then◌else◌}
 use Rattle.std.specs.List.{list_all}
+use Rattle.std.specs.Option.{option_or}
 use Rattle.std.proofs.lemmas.Bool.{leb-true}
 use Rattle.std.proofs.lemmas.List.Folds.{list_all-map, list_all-append}
-use Rattle.text_base.specs.Cards.{with_first, cut, without_return, lines, is_blank, is_marked, is_comment, is_statement_line, is_line, is_readable, Comment, comment_of, comments_of, comments}
+use Rattle.text_base.specs.Lines.{with_first, cut, without_return, lines, is_blank, is_marked, is_comment, is_initial}
+use Rattle.text_base.specs.Cards.{Comment, comment_of, whole_before, comments_of, comments}
+use Rattle.text_base.specs.LineRefusals.{Fault, Begun, long_fault, initial_fault, continuation_fault, line_fault, begun_after, refused_at, line_refusals, card_refusals}
+use Rattle.text_base.specs.declared.refusal.Cause.TheVariants.{LineTooLong}
 use Rattle.tree90.specs.Tree.{Remark}
 use Rattle.tree90.specs.Printed.{remark_text, remarks_text}
 use Rattle.tree90.specs.Proper.{is_writable_remark, are_writable_remarks}
 use Rattle.modern_cli.specs.Written.{remark_of, comments_at, comments_from, remarks_at}
 use Rattle.modern_cli.proofs.Names.{both_true, true_both, all_filtered}
 use Rattle.modern_cli.proofs.Seen.{all_implied, all_taken}
-use Rattle.modern_cli.proofs.ShortPieces.{has_no_feed, IsShortLines, short_nothing, short_append, short_line}
+use Rattle.modern_cli.proofs.RefusalLemmas.{lines_accepted}
+use Rattle.modern_cli.proofs.ShortPieces.{is_short, has_no_feed, IsShortLines, short_nothing, short_append, short_line}
 
 -- ---- remarks
 
 -- a comment that can be written, and whose line is short
 abbrev pub is_short_remark : Remark → Bool
-is_short_remark r = nat_le (length r.text) 131 && is_writable_remark r
+is_short_remark r = is_short (if r.marked then 33 ∷ r.text else r.text) && is_writable_remark r
 
 -- such comments alone
 abbrev pub are_short_remarks : List Remark → Bool
@@ -25,7 +30,7 @@ are_short_remarks = list_all is_short_remark
 
 -- short comments can be written
 pub are_writable : (rs : List Remark) → are_short_remarks rs ≡ true → are_writable_remarks rs ≡ true
-are_writable rs e = all_implied is_short_remark is_writable_remark (λ r h. (both_true (nat_le (length r.text) 131) (is_writable_remark r) h).1) rs e
+are_writable rs e = all_implied is_short_remark is_writable_remark (λ r h. (both_true (is_short (if r.marked then 33 ∷ r.text else r.text)) (is_writable_remark r) h).1) rs e
 
 -- comments after comments
 pub remarks_append : (rs qs : List Remark) → are_short_remarks rs ≡ true → are_short_remarks qs ≡ true → are_short_remarks (rs ++ qs) ≡ true
@@ -34,13 +39,12 @@ remarks_append rs qs e f = list_all-append is_short_remark rs qs ∙ true_both (
 -- a short comment is one short line
 remark_is_short : (r : Remark) → is_short_remark r ≡ true → IsShortLines (remark_text r)
 remark_is_short r e =
-    let b = both_true (nat_le (length r.text) 131) (is_writable_remark r) e in
-    let few = leb-true (length r.text) 131 b.0 in
-    go r.marked few (both_true (has_no_feed r.text) (if r.marked then true else is_blank r.text) b.1).0
+    let b = both_true (is_short (if r.marked then 33 ∷ r.text else r.text)) (is_writable_remark r) e in
+    go r.marked b.0 (both_true (has_no_feed r.text) (if r.marked then true else is_blank r.text) b.1).0
   where
-    go : (marked : Bool) → length r.text ≤ 131 → has_no_feed r.text ≡ true → IsShortLines ((if marked then 33 ∷ r.text else r.text) ++ 10 ∷ [])
-    go true few none = short_line (33 ∷ r.text) none (omega arith)
-    go false few none = short_line r.text none (omega arith)
+    go : (marked : Bool) → is_short (if marked then 33 ∷ r.text else r.text) ≡ true → has_no_feed r.text ≡ true → IsShortLines ((if marked then 33 ∷ r.text else r.text) ++ 10 ∷ [])
+    go true few none = short_line (33 ∷ r.text) none (leb-true _ _ few)
+    go false few none = short_line r.text none (leb-true _ _ few)
 
 -- short comments are short lines
 pub remarks_are_short : (rs : List Remark) → are_short_remarks rs ≡ true → IsShortLines (remarks_text rs)
@@ -103,44 +107,70 @@ lines_have_no_feed bytes =
     list_all-map has_no_feed without_return (cut bytes)
     ∙ all_implied has_no_feed (λ l. has_no_feed (without_return l)) return_has_no_feed (cut bytes) (cut_has_no_feed bytes)
 
--- the comment of a marked line
-marked_is_short : (before : ℕ) (l : List ℕ) → is_marked l ≡ true → has_no_feed l ≡ true → length l ≤ 72 → is_short_comment (record { marked = true; text = drop 1 l; before = before }) ≡ true
-marked_is_short before [] marked none few = absurd cc
-marked_is_short before (c ∷ l) marked none few =
-    let rest = both_true (not (c == 10)) (has_no_feed l) none in
-    let size : length l ≤ 131 = omega arith in
-    true_both (nat_le (length l) 131) (has_no_feed l && true) (le-leb _ _ size) (true_both (has_no_feed l) true rest.1 refl)
+-- what stands behind the first character of a line, as the text of a comment
+marked_is_short : (before : ℕ) (l : List ℕ) → is_short l ≡ true → has_no_feed l ≡ true → is_short_comment (record { marked = true; text = drop 1 l; before = before }) ≡ true
+marked_is_short before [] few none = refl
+marked_is_short before (c ∷ l) few none =
+    true_both (is_short (33 ∷ l)) (has_no_feed l && true) few (true_both (has_no_feed l) true (both_true (not (c == 10)) (has_no_feed l) none).1 refl)
 
--- the comment of a blank line
-blank_is_short : (before : ℕ) (l : List ℕ) → is_blank l ≡ true → has_no_feed l ≡ true → length l ≤ 72 → is_short_comment (record { marked = false; text = l; before = before }) ≡ true
-blank_is_short before l blank none few =
-    let size : length l ≤ 131 = omega arith in
-    true_both (nat_le (length l) 131) (has_no_feed l && is_blank l) (le-leb _ _ size) (true_both (has_no_feed l) (is_blank l) none blank)
-
--- the comment of a line of a file
-comment_is_short : (before : ℕ) (l : List ℕ) → is_comment l ≡ true → has_no_feed l ≡ true → length l ≤ 72 → is_short_comment (comment_of before l) ≡ true
-comment_is_short before l comment none few = go (is_marked l) refl comment
+-- the comment of a line
+comment_is_short : (before : ℕ) (l : List ℕ) → is_short l ≡ true → has_no_feed l ≡ true → is_short_comment (comment_of before l) ≡ true
+comment_is_short before l few none = go (is_marked l) (is_blank l) refl
   where
-    go : (b : Bool) → is_marked l ≡ b → (b || is_blank l) ≡ true → is_short_comment (if b then record { marked = true; text = drop 1 l; before = before } else record { marked = false; text = l; before = before }) ≡ true
-    go true is either = marked_is_short before l is none few
-    go false is either = blank_is_short before l either none few
+    go : (marked blank : Bool) → is_blank l ≡ blank
+        → is_short_comment (if marked || not blank then record { marked = true; text = drop 1 l; before = before } else record { marked = false; text = l; before = before }) ≡ true
+    go true blank is = marked_is_short before l few none
+    go false false is = marked_is_short before l few none
+    go false true is = true_both (is_short l) (has_no_feed l && is_blank l) few (true_both (has_no_feed l) (is_blank l) none is)
 
--- the comments of such lines are short
-comments_of_are_short : (before : ℕ) (ls : List (List ℕ)) → list_all is_line ls ≡ true → list_all has_no_feed ls ≡ true → are_short_comments (comments_of before ls) ≡ true
-comments_of_are_short before [] are none = refl
-comments_of_are_short before (l ∷ ls) are none =
-    let a = both_true (is_line l) (list_all is_line ls) are in
+-- the comments of short lines are short
+comments_of_are_short : (begun : ℕ) (ls : List (List ℕ)) → list_all is_short ls ≡ true → list_all has_no_feed ls ≡ true → are_short_comments (comments_of begun ls) ≡ true
+comments_of_are_short begun [] few none = refl
+comments_of_are_short begun (l ∷ ls) few none =
+    let f = both_true (is_short l) (list_all is_short ls) few in
     let n = both_true (has_no_feed l) (list_all has_no_feed ls) none in
-    let few = leb-true (length l) 72 (both_true (nat_le (length l) 72) (is_comment l || is_statement_line l) a.0).0 in
-    go (is_comment l) refl n.0 few (comments_of_are_short before ls a.1 n.1) (comments_of_are_short (before + 1) ls a.1 n.1)
+    go (is_comment l) (is_initial l) (comment_is_short (whole_before begun ls) l f.0 n.0) (λ m. comments_of_are_short m ls f.1 n.1)
   where
-    go : (b : Bool) → is_comment l ≡ b → has_no_feed l ≡ true → length l ≤ 72 → are_short_comments (comments_of before ls) ≡ true → are_short_comments (comments_of (before + 1) ls) ≡ true
-        → are_short_comments (if b then comment_of before l ∷ comments_of before ls else comments_of (before + 1) ls) ≡ true
-    go true is none few same more = true_both (is_short_comment (comment_of before l)) (are_short_comments (comments_of before ls)) (comment_is_short before l is none few) same
-    go false is none few same more = more
+    go : (comment initial : Bool) → is_short_comment (comment_of (whole_before begun ls) l) ≡ true → ((m : ℕ) → are_short_comments (comments_of m ls) ≡ true)
+        → are_short_comments (if comment then comment_of (whole_before begun ls) l ∷ comments_of begun ls else comments_of (if initial then begun + 1 else begun) ls) ≡ true
+    go true initial here rest = true_both (is_short_comment (comment_of (whole_before begun ls) l)) (are_short_comments (comments_of begun ls)) here (rest begun)
+    go false true here rest = rest (begun + 1)
+    go false false here rest = rest begun
 
--- the comments of a file that can be read are short
-pub comments_are_short : (bytes : List ℕ) → is_readable bytes ≡ true → are_short_comments (comments bytes) ≡ true
-comments_are_short bytes e =
-    let b = both_true (nat_le (length bytes) 16777216) (list_all is_line (lines bytes)) e in
-    comments_of_are_short 0 (lines bytes) b.1 (lines_have_no_feed bytes)
+-- ---- lines that are accepted
+
+-- a line that isn't too long is short
+not_long : (l : List ℕ) → long_fault l ≡ None → is_short l ≡ true
+not_long l e = go (nat_lt 132 (length l)) refl e
+  where
+    go : (b : Bool) → nat_lt 132 (length l) ≡ b → cond {A = Option Fault} b (Some (LineTooLong, decimal (length l))) None ≡ None → is_short l ≡ true
+    go true is e = absurd cc
+    go false is e = grind (arith, is)
+
+-- where neither of two is found, the first isn't
+first_none : (a b : Option Fault) → option_or a b ≡ None → a ≡ None
+first_none None b e = refl
+first_none (Some fault) b e = absurd cc
+
+-- a line that isn't refused is short
+line_is_short : (b : Option Begun) (l : List ℕ) → line_fault b l ≡ None → is_short l ≡ true
+line_is_short b l e = not_long l (go (is_comment l) (is_initial l) e)
+  where
+    go : (comment initial : Bool) → (if comment then long_fault l else (if initial then initial_fault l else continuation_fault b l)) ≡ None → long_fault l ≡ None
+    go true initial e = e
+    go false true e = first_none (long_fault l) _ e
+    go false false e = first_none (long_fault l) _ e
+
+-- lines of which none is refused are short
+lines_are_short : (number : ℕ) (b : Option Begun) (ls : List (List ℕ)) → line_refusals 0 number b ls ≡ [] → list_all is_short ls ≡ true
+lines_are_short number b [] e = refl
+lines_are_short number b (l ∷ ls) e = go (line_fault b l) refl e (λ f. lines_are_short (number + 1) (begun_after b l) ls f)
+  where
+    go : (fault : Option Fault) → line_fault b l ≡ fault → refused_at 0 number fault ++ line_refusals 0 (number + 1) (begun_after b l) ls ≡ []
+        → (line_refusals 0 (number + 1) (begun_after b l) ls ≡ [] → list_all is_short ls ≡ true) → list_all is_short (l ∷ ls) ≡ true
+    go None is e rest = true_both (is_short l) (list_all is_short ls) (line_is_short b l is) (rest e)
+    go (Some fault) is e rest = absurd cc
+
+-- the comments of a file whose lines are accepted are short
+pub comments_are_short : (bytes : List ℕ) → card_refusals 0 bytes ≡ [] → are_short_comments (comments bytes) ≡ true
+comments_are_short bytes e = comments_of_are_short 0 (lines bytes) (lines_are_short 1 None (lines bytes) (lines_accepted bytes e).1) (lines_have_no_feed bytes)

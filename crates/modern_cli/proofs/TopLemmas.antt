@@ -1,7 +1,6 @@
 -- From what was answered, and how the sink took it, to what the program says of its status.
 use Rattle.std.proofs.Common.{◌≡◌, ◌⊎◌, inl, inr, ℕ, List, Option, Some, None, IfSome, sym, ◌∙◌, subst}
 use Rattle.text_base.specs.Files.{Files}
-use Rattle.tree77.specs.Source.{IsSource}
 use Rattle.modern_cli.specs.Conversion.{IsRefused}
 use Rattle.modern_cli.specs.Words.{Command}
 use Rattle.modern_cli.specs.FromFile.{FromFile, LacksName, IsBuilt, Converts, PartlyConverts}
@@ -41,16 +40,16 @@ lacks_none : (command : Option Command) (files : Files) (P : Command → List �
 lacks_none None files P lacks from = from
 lacks_none (Some c) files P lacks from = none_some (sym lacks ∙ from.1)
 
--- bytes that are the source of a program are not refused
+-- bytes of which nothing is refused are not refused
 built_not_refused : (command : Option Command) (files : Files) → FromFile command (Some files) (λ _ bytes. IsBuilt bytes) → FromFile command (Some files) (λ _ bytes. IsRefused bytes) → ⊥
 built_not_refused None files built refused = built
-built_not_refused (Some c) files built refused = refused.2 built.2.0 (subst (λ bytes. IsSource 0 bytes built.2.0) (some_same (sym built.1 ∙ refused.1)) built.2.1)
+built_not_refused (Some c) files built refused = refused.2 (subst (λ bytes. IsBuilt bytes) (some_same (sym built.1 ∙ refused.1)) built.2)
 
 -- a refused file whose contents are told leaves them as they were
 refused_unchanged : (command : Option Command) (files : Files) (new : Option Files) → IsPartly command (Some files) new → FromFile command (Some files) (λ _ bytes. IsRefused bytes) → new ≡ Some files
 refused_unchanged command files new (inl same) refused = same
 refused_unchanged command files new (inr from) refused =
-    absurd (built_not_refused command files (from_more command (Some files) (PartlyConverts (Some files) new) (λ _ bytes. IsBuilt bytes) (λ c bytes p. (p.0, p.1)) from) refused)
+    absurd (built_not_refused command files (from_more command (Some files) (PartlyConverts (Some files) new) (λ _ bytes. IsBuilt bytes) (λ c bytes p. p.1.accepted) from) refused)
 
 -- a refused file leaves the contents as they were
 pub memory_refused : (command : Option Command) (old new : Option Files) → IsPartly command old new → IfSome old (λ files. FromFile command (Some files) (λ _ bytes. IsRefused bytes) → new ≡ old)
@@ -114,18 +113,18 @@ module _ (command : Option Command) (files : Files) (new : Option Files) (unread
   abbrev AtTold : Status → Type 0
   AtTold s = Answers s command (Some files) new unread absent unwritten whole
 
-  -- what comes for the source of no program
+  -- what comes for a file of which something is refused
   refused_by : (wanted status : Status) → AtTold wanted → (unread → ⊥) → FromFile command (Some files) (λ _ bytes. IsRefused bytes) → IsOrMemory status wanted → IsOrMemory status Refused
   refused_by Done status answers readable is comes =
-      absurd (built_not_refused command files (from_more command (Some files) _ (λ _ bytes. IsBuilt bytes) (λ c bytes p. (p.0, p.1)) answers) is)
+      absurd (built_not_refused command files (from_more command (Some files) _ (λ _ bytes. IsBuilt bytes) (λ c bytes p. p.1.accepted) answers) is)
   refused_by Refused status answers readable is comes = comes
   refused_by Usage status answers readable is comes = absurd (subst (λ c. FromFile c (Some files) (λ _ bytes. IsRefused bytes)) answers.1 is)
   refused_by ReadFault status answers readable is comes = absurd (readable answers.1)
   refused_by Missing status answers readable is comes = absurd (lacks_none command files _ answers.2 is)
-  refused_by WriteFault status answers readable is comes = absurd (built_not_refused command files (from_more command (Some files) _ (λ _ bytes. IsBuilt bytes) (λ c bytes p. (p.0, p.1)) answers.1) is)
+  refused_by WriteFault status answers readable is comes = absurd (built_not_refused command files (from_more command (Some files) _ (λ _ bytes. IsBuilt bytes) (λ c bytes p. p.1.accepted) answers.1) is)
   refused_by Memory status answers readable is comes = inr (memory_is status comes)
 
-  -- what comes for the source of a program
+  -- what comes for a file of which nothing is refused
   built_by : (wanted status : Status) → AtTold wanted → (unread → ⊥) → (unwritten → ⊥) → FromFile command (Some files) (λ _ bytes. IsBuilt bytes) → IsOrMemory status wanted → IsOrMemory status Done
   built_by Done status answers readable writable is comes = comes
   built_by Refused status answers readable writable is comes =
@@ -137,14 +136,14 @@ module _ (command : Option Command) (files : Files) (new : Option Files) (unread
   built_by Memory status answers readable writable is comes = inr (memory_is status comes)
 
 module _ (command : Option Command) (unread absent unwritten failed denied : Type 0) (whole : List ℕ) where
-  -- the source of no program is refused
+  -- a file of which something is refused is refused
   pub refused_always : (old new : Option Files) (wanted status : Status) → Answers wanted command old new unread absent unwritten whole → Turns failed denied wanted status
       → (unread → ⊥) → (failed → ⊥) → IfSome old (λ files. FromFile command (Some files) (λ _ bytes. IsRefused bytes) → IsOrMemory status Refused)
   refused_always None new wanted status answers turns readable sound = tt
   refused_always (Some files) new wanted status answers turns readable sound =
       λ is. refused_by command files new unread absent unwritten failed denied whole wanted status answers readable is (wanted_or_memory failed denied wanted status sound turns)
 
-  -- the source of a program is converted
+  -- a file of which nothing is refused is converted
   pub complete_told : (old new : Option Files) (wanted status : Status) → Answers wanted command old new unread absent unwritten whole → Turns failed denied wanted status
       → (unread → ⊥) → (unwritten → ⊥) → (failed → ⊥) → IfSome old (λ files. FromFile command (Some files) (λ _ bytes. IsBuilt bytes) → IsOrMemory status Done)
   complete_told None new wanted status answers turns readable writable sound = tt

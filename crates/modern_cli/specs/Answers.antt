@@ -2,8 +2,7 @@
 use Rattle.std.specs.Prelude.{◌≡◌, ◌⊎◌, ℕ, List, codes, Option, None}
 use Rattle.text_base.specs.Files.{Files}
 use Rattle.tree77.specs.Tree.{SourceProgram}
-use Rattle.tree77.specs.Source.{IsSource}
-use Rattle.modern_cli.specs.Conversion.{program_report}
+use Rattle.modern_cli.specs.Conversion.{program_report, IsConvertible}
 use Rattle.modern_cli.specs.Words.{Command}
 use Rattle.modern_cli.specs.Outputs.{with_files, outputs}
 use Rattle.modern_cli.specs.FromFile.{FromFile, LacksName, PartlyConverts}
@@ -51,7 +50,7 @@ IsPartly command old new = (new ≡ old) ⊎ FromFile command old (PartlyConvert
 -- The status that is answered, with the fault or the absence that was counted for it, what is held then, and the text for it.
 abbrev pub Answers : Status → Option Command → (old new : Option Files) → (unread absent unwritten : Type 0) → List ℕ → Type 0
 Answers Done command old new unread absent unwritten text =
-    FromFile command old (λ c bytes. (p : SourceProgram) × IsSource 0 bytes p × (new ≡ with_files (outputs c bytes p) old) × (text ≡ program_report p))
+    FromFile command old (λ c bytes. (p : SourceProgram) × IsConvertible bytes p × (new ≡ with_files (outputs c bytes p) old) × (text ≡ program_report bytes p))
 Answers Refused command old new unread absent unwritten text = (new ≡ old) × IsRefusalText command old text
 Answers Usage command old new unread absent unwritten text = (new ≡ old) × (command ≡ None) × (text ≡ usage_line)
 Answers ReadFault command old new unread absent unwritten text = (new ≡ old) × unread × IsFileLine (codes "READ FAULT ") command text

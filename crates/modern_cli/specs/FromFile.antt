@@ -1,5 +1,5 @@
 -- What follows from the bytes of the command's file.
-use Rattle.std.specs.Prelude.{◌≡◌, ℕ, List, Option, Some, None}
+use Rattle.std.specs.Prelude.{◌≡◌, ℕ, List, [], Option, Some, None}
 use Rattle.std.specs.FinMap.{get}
 use Rattle.text_base.specs.Files.{Files, HasFile, LacksFile}
 use Rattle.tree77.specs.Tree.{SourceProgram}
@@ -7,6 +7,8 @@ use Rattle.tree77.specs.Source.{IsSource}
 use Rattle.tree90.specs.Tree.{FreeProgram}
 use Rattle.tree90.specs.FreeText.{SpellsText}
 use Rattle.tree90.specs.Proper.{IsProper}
+use Rattle.modern_cli.specs.Refusals.{refusals}
+use Rattle.modern_cli.specs.Conversion.{IsConvertible}
 use Rattle.modern_cli.specs.MapText.{MapLine, map_text}
 use Rattle.modern_cli.specs.Match.{DoesTheSame}
 use Rattle.modern_cli.specs.Words.{Command, map_name}
@@ -23,17 +25,17 @@ abbrev pub LacksName : Option Command → Option Files → Type 0
 LacksName None held = ⊥
 LacksName (Some command) held = LacksFile held command.file
 
--- the bytes are the source of some program
+-- nothing is refused of the bytes
 abbrev pub IsBuilt : List ℕ → Type 0
-IsBuilt bytes = (p : SourceProgram) × IsSource 0 bytes p
+IsBuilt bytes = refusals bytes ≡ []
 
--- the bytes are the source of a program, and its outputs were set
+-- the bytes are the source of a program that is converted, and its outputs were set
 abbrev pub Converts : (old new : Option Files) → Command → List ℕ → Type 0
-Converts old new command bytes = (p : SourceProgram) × IsSource 0 bytes p × (new ≡ with_files (outputs command bytes p) old)
+Converts old new command bytes = (p : SourceProgram) × IsConvertible bytes p × (new ≡ with_files (outputs command bytes p) old)
 
--- the bytes are the source of a program, and its outputs were set up to some point
+-- the bytes are the source of a program that is converted, and its outputs were set up to some point
 abbrev pub PartlyConverts : (old new : Option Files) → Command → List ℕ → Type 0
-PartlyConverts old new command bytes = (p : SourceProgram) × IsSource 0 bytes p × PartlyWritten (outputs command bytes p) old new
+PartlyConverts old new command bytes = (p : SourceProgram) × IsConvertible bytes p × PartlyWritten (outputs command bytes p) old new
 
 -- exactly one program, with its comments, is read in the text, and it is proper
 pub record OneReading (text : List ℕ) (program : FreeProgram) : Type 0 where

@@ -3,6 +3,7 @@ pub mod Match
 pub mod Written
 pub mod Remarks
 pub mod Positions
+pub mod Refusals
 pub mod Conversion
 pub mod StatementViews
 pub mod Names

@@ -1,12 +1,11 @@
 -- The lines that are printed.
-use Rattle.std.specs.Prelude.{◌≡◌, ℕ, List, [], ◌∷◌, ◌++◌, codes, decimal, flat_map, Option, Some, None}
+use Rattle.std.specs.Prelude.{◌≡◌, ℕ, List, ◌++◌, codes, decimal, flat_map, Option, Some, None}
 use Rattle.text_base.specs.Causes.{cause_number, cause_text}
 use Rattle.text_base.specs.Files.{Files}
-use Rattle.text_base.specs.Refusing.{not_built}
 use Rattle.text_base.specs.declared.refusal.Refusal.{Refusal}
 use Rattle.tree77.specs.Tree.{SourceProgram}
-use Rattle.tree77.specs.Source.{IsSource}
-use Rattle.modern_cli.specs.Conversion.{program_report, IsRefused}
+use Rattle.modern_cli.specs.Refusals.{refusals}
+use Rattle.modern_cli.specs.Conversion.{program_report, IsConvertible, IsRefused}
 use Rattle.modern_cli.specs.Words.{Command}
 use Rattle.modern_cli.specs.Outputs.{outputs, StoppedAt}
 use Rattle.modern_cli.specs.FromFile.{FromFile}
@@ -35,7 +34,7 @@ StoppedLine outputs old new text = (name : List ℕ) × StoppedAt outputs old ne
 
 -- the line of the output of a program at which the writing stopped, of which the file is the source
 abbrev pub IsOutputLine : Option Command → (old new : Option Files) → List ℕ → Type 0
-IsOutputLine command old new text = FromFile command old (λ c bytes. (p : SourceProgram) × IsSource 0 bytes p × StoppedLine (outputs c bytes p) old new text)
+IsOutputLine command old new text = FromFile command old (λ c bytes. (p : SourceProgram) × IsConvertible bytes p × StoppedLine (outputs c bytes p) old new text)
 
 -- `file:line: number cause name`
 abbrev pub refusal_head : List ℕ → ℕ → ℕ → List ℕ → List ℕ
@@ -50,8 +49,8 @@ refusal_lines file refusals = flat_map (refusal_line file) refusals
 
 -- the report of a program of which the file is the source
 abbrev pub IsReport : Option Command → Option Files → List ℕ → Type 0
-IsReport command held text = FromFile command held (λ c bytes. (p : SourceProgram) × IsSource 0 bytes p × (text ≡ program_report p))
+IsReport command held text = FromFile command held (λ c bytes. (p : SourceProgram) × IsConvertible bytes p × (text ≡ program_report bytes p))
 
--- the lines of the refusals of a file that is the source of no program
+-- the lines of all that is refused of a file
 abbrev pub IsRefusalText : Option Command → Option Files → List ℕ → Type 0
-IsRefusalText command held text = FromFile command held (λ c bytes. IsRefused bytes × (text ≡ refusal_lines c.file (not_built 0 ∷ [])))
+IsRefusalText command held text = FromFile command held (λ c bytes. IsRefused bytes × (text ≡ refusal_lines c.file (refusals bytes)))

@@ -27,4 +27,4 @@ named_texts out text map report = (out, text) ∷ (map_name out, map) ∷ (repor
 
 -- what a command writes for a program, which the bytes are the source of
 abbrev pub outputs : Command → List ℕ → SourceProgram → List (List ℕ × List ℕ)
-outputs command bytes p = named_texts command.out (program_text bytes p) (program_map p) (program_report p)
+outputs command bytes p = named_texts command.out (program_text bytes p) (program_map p) (program_report bytes p)

@@ -2,8 +2,7 @@
 use Rattle.std.specs.Prelude.{◌≡◌, ◌⊎◌, ℕ, List, ◌++◌, codes, Option}
 use Rattle.text_base.specs.Files.{Files}
 use Rattle.tree77.specs.Tree.{SourceProgram}
-use Rattle.tree77.specs.Source.{IsSource}
-use Rattle.modern_cli.specs.Conversion.{program_report}
+use Rattle.modern_cli.specs.Conversion.{program_report, IsConvertible}
 use Rattle.modern_cli.specs.Words.{Command}
 use Rattle.modern_cli.specs.Outputs.{with_files, outputs}
 use Rattle.modern_cli.specs.FromFile.{FromFile}
@@ -42,7 +41,7 @@ PrintsSome troubled form text = (line : List ℕ) × form line × PrintsLine tro
 -- the report of a program whose outputs were set, or the lines of a refusal that left the contents as they were
 abbrev pub IsMainText : Option Command → (old new : Option Files) → List ℕ → Type 0
 IsMainText command old new text =
-    FromFile command old (λ c bytes. (p : SourceProgram) × IsSource 0 bytes p × (new ≡ with_files (outputs c bytes p) old) × (text ≡ program_report p))
+    FromFile command old (λ c bytes. (p : SourceProgram) × IsConvertible bytes p × (new ≡ with_files (outputs c bytes p) old) × (text ≡ program_report bytes p))
     ⊎ ((new ≡ old) × IsRefusalText command old text)
 
 -- a first part of the report or of the refusals, and then the line

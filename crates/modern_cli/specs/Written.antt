@@ -1,5 +1,6 @@
 -- What is written for a program: the Fortran 90 program, the map and the report.
 use Rattle.std.specs.Prelude.{ℕ, ◌+◌, ◌==◌, nat_le, List, [], ◌∷◌, ◌++◌, map, filter, length, codes, decimal, slice_get, unwrap_or}
+use Rattle.text_base.specs.Lines.{cut_lines}
 use Rattle.text_base.specs.Cards.{Comment}
 use Rattle.tree77.specs.Tree as source
 use Rattle.tree77.specs.Tree.{SourceUnit, SourceProgram}
@@ -93,9 +94,9 @@ pub record Counts : Type 0 where
   pub arrays : ℕ
   pub cut : ℕ
 
--- a program of this language has no jump and no array segment, and its lines end at column 72
-abbrev pub counts_of : SourceProgram → Counts
-counts_of p = record { units = length p.units; webs = 0; kept = 0; arrays = 0; cut = 0 }
+-- a program of this language has no jump and no array segment
+abbrev pub counts_of : List ℕ → SourceProgram → Counts
+counts_of bytes p = record { units = length p.units; webs = 0; kept = 0; arrays = 0; cut = cut_lines bytes }
 
 abbrev pub report_text : Counts → List ℕ
 report_text c =

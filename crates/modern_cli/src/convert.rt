@@ -1,21 +1,20 @@
 // The conversion of one file.
-ghost use Rattle.std.specs.Prelude.{◌≡◌, ◌≤◌, true, [], ◌∷◌, map, IfOk, IfSome};
-ghost use Rattle.std.specs.Option.{option_map};
+ghost use Rattle.std.specs.Prelude.{◌≡◌, ◌≤◌, true, [], ◌∷◌, length, map, IfOk, OnOk};
+ghost use Rattle.text_base.specs.Lines.{cut_lines};
+ghost use Rattle.text_base.specs.LineRefusals.{card_refusals};
 ghost use Rattle.text_base.specs.Cards as form;
-ghost use Rattle.card_reader.specs.Views.{comment_of};
+ghost use Rattle.card_reader.specs.Views.{card_of, comment_of};
 ghost use Rattle.tree77.specs.Plain.{unit_of, program_of};
-ghost use Rattle.tree77.specs.Source.{IsSource};
-ghost use Rattle.tree77.specs.Reading.{read_source};
 ghost use Rattle.tree90.specs.Printed.{printed};
-ghost use Rattle.modern_cli.specs.Written.{sizes_of, written};
+ghost use Rattle.modern_cli.specs.Written.{sizes_of, written, report_text};
 ghost use Rattle.modern_cli.specs.Remarks.{is_ascending};
 ghost use Rattle.modern_cli.specs.Conversion as texts;
-ghost use Rattle.modern_cli.specs.Conversion.{IsConversion, RefusesWith};
+ghost use Rattle.modern_cli.specs.Conversion.{IsConvertible, IsConversion, RefusesWith};
 
 use crate::free_text::program_text;
 use crate::map::map_of;
+use crate::refusals::statement_refusals;
 use crate::report::{Counts, report};
-use crate::typing::is_unit_typed;
 use crate::unit_reader::read_cards_unit;
 use crate::written::written_program;
 use card_reader::{CardsError, Deck, read_cards};
@@ -66,36 +65,40 @@ struct Source {
     deck: Deck,
 }
 
-// The program that the bytes are the source of, if they are, with their comments.
-fn read_bytes(alloc: Global, bytes: &[u8]) -> Result<Option<Source>, AllocError>
-    ensures program { IfOk result (λ s. option_map (λ (s : Source). program_of s.program) s ≡ read_source 0 bytes.now) }
-    ensures comments { IfOk result (λ s. IfSome s (λ s. map comment_of s.deck.comments ≡ form.comments bytes.now)) }
+// The statements and the comments of a file of which no line is refused.
+fn read_deck(alloc: Global, bytes: &[u8]) -> Result<Deck, ConvertError>
+    ensures cards { IfOk result (λ deck. map card_of deck.statements ≡ form.cards 0 bytes.now) }
+    ensures comments { IfOk result (λ deck. map comment_of deck.comments ≡ form.comments bytes.now) }
+    ensures cut { IfOk result (λ deck. deck.cut ≡ cut_lines bytes.now) }
+    ensures accepted { OnOk result (card_refusals 0 bytes.now ≡ []) }
+    ensures refused { RefusesWith bytes.now result }
 {
-    let deck = match read_cards(alloc, 0, bytes) {
-        Ok(deck) => deck,
-        Err(CardsError::Refused(_)) => return Ok(None),
-        Err(CardsError::Memory) => return Err(AllocError),
-    };
-    let Some(unit) = read_cards_unit(alloc, deck.statements())? else {
-        return Ok(None);
-    };
-    if !is_unit_typed(&unit) {
-        return Ok(None);
+    match read_cards(alloc, 0, bytes) {
+        Ok(deck) => Ok(deck),
+        Err(CardsError::Refused(refusals)) => Err(ConvertError::Refused(refusals)),
+        Err(CardsError::Memory) => Err(ConvertError::Memory),
     }
-    let program = one_unit(alloc, unit)?;
-    Ok(Some(Source { program, deck }))
 }
 
+// The program that the bytes are the source of, with their comments. What is refused is refused phase by phase: of the
+// lines, of the statements, and of the statements as a program.
 fn read_program(alloc: Global, bytes: &[u8]) -> Result<Source, ConvertError>
-    ensures found { IfOk result (λ s. IsSource 0 bytes.now (program_of s.program)) }
+    ensures found { IfOk result (λ s. IsConvertible bytes.now (program_of s.program)) }
     ensures comments { IfOk result (λ s. map comment_of s.deck.comments ≡ form.comments bytes.now) }
+    ensures cut { IfOk result (λ s. s.deck.cut ≡ cut_lines bytes.now) }
     ensures refused { RefusesWith bytes.now result }
 {
     reading_is_spelling();
-    match read_bytes(alloc, bytes)? {
-        Some(source) => Ok(source),
-        None => Err(ConvertError::Refused(not_built(alloc, 0)?)),
+    let deck = read_deck(alloc, bytes)?;
+    let refusals = statement_refusals(alloc, deck.statements())?;
+    if !refusals.is_empty() {
+        return Err(ConvertError::Refused(refusals));
     }
+    let Some(unit) = read_cards_unit(alloc, deck.statements())? else {
+        return Err(ConvertError::Refused(not_built(alloc, 0)?));
+    };
+    let program = one_unit(alloc, unit)?;
+    Ok(Source { program, deck })
 }
 
 fn written_texts(alloc: Global, source: &Source) -> Result<Outputs, AllocError>
@@ -103,18 +106,18 @@ fn written_texts(alloc: Global, source: &Source) -> Result<Outputs, AllocError>
     requires in_order { is_ascending 0 (map comment_of source.now.deck.comments) ≡ true }
     ensures text { IfOk result (λ o. o.text ≡ printed (written (map comment_of source.now.deck.comments) (program_of source.now.program))) }
     ensures map { IfOk result (λ o. o.map ≡ texts.program_map (program_of source.now.program)) }
-    ensures report { IfOk result (λ o. o.report ≡ texts.program_report (program_of source.now.program)) }
+    ensures report { IfOk result (λ o. o.report ≡ report_text (record { units = length (program_of source.now.program).units; webs = 0; kept = 0; arrays = 0; cut = source.now.deck.cut })) }
 {
     let written = written_program(alloc, &source.program, source.deck.comments())?;
     Ok(Outputs {
         text: program_text(alloc, &written)?,
         map: map_of(alloc, &source.program)?,
-        report: report(alloc, &Counts::of(&source.program))?,
+        report: report(alloc, &Counts::of(&source.program, source.deck.cut()))?,
     })
 }
 
-/// What the file is converted to. It is refused exactly where its bytes are the source of no program of
-/// the language; the list is then the one refusal of the whole file.
+/// What the file is converted to. Where something is refused of its bytes the list has all of it, and where nothing is
+/// they are the source of the program that is converted.
 #[tactic(auto, using(crate::proofs::SizeLemmas::source_is_counted, crate::proofs::CommentLemmas::comments_ascend))]
 pub fn convert(alloc: Global, bytes: &[u8]) -> Result<Outputs, ConvertError>
     ensures converts { IfOk result (λ o. IsConversion bytes.now o.text o.map o.report) }

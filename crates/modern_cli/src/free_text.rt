@@ -125,7 +125,7 @@ fn write_item(alloc: Global, out: &mut Bytes, level: usize, item: &Item90) -> Re
     write_stmts(alloc, out, level, item.body.as_slice())
 }
 
-fn write_stmts(
+pub(crate) fn write_stmts(
     alloc: Global,
     out: &mut Bytes,
     level: usize,

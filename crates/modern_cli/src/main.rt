@@ -10,12 +10,12 @@ mod lines;
 mod map;
 mod memory;
 mod printing;
+mod refusals;
 mod remarks;
 mod report;
 mod statement;
 mod status;
 mod top;
-mod typing;
 mod unit_reader;
 mod variables;
 mod words;
@@ -51,3 +51,5 @@ fn main(rt: HostRuntime) -> ExitCode {
 mod tests;
 #[cfg(test)]
 mod tests_back;
+#[cfg(test)]
+mod tests_cards;

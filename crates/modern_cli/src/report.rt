@@ -1,7 +1,7 @@
 // The report: what stands in the source, in numbers.
-ghost use Rattle.std.specs.Prelude.{◌≡◌, ◌++◌, codes, decimal, IfOk, OnOk};
+ghost use Rattle.std.specs.Prelude.{◌≡◌, ◌++◌, length, codes, decimal, IfOk, OnOk};
 ghost use Rattle.tree77.specs.Plain.{program_of};
-ghost use Rattle.modern_cli.specs.Written.{counts_of, report_text};
+ghost use Rattle.modern_cli.specs.Written.{report_text};
 
 use std::alloc::{AllocError, Global};
 use std::marker::Model;
@@ -28,17 +28,17 @@ impl Model for Counts {
 }
 
 impl Counts {
-    /// The numbers of the program. A program of this language has no jump and no array segment, and its lines
-    /// end at column 72.
-    pub fn of(program: &Program77) -> Counts
-        ensures { result ≡ counts_of (program_of program.now) }
+    /// The numbers of the program, of whose file so many lines are cut off at column 72. A program of this language has
+    /// no jump and no array segment.
+    pub fn of(program: &Program77, cut: u32) -> Counts
+        ensures { result ≡ record { units = length (program_of program.now).units; webs = 0; kept = 0; arrays = 0; cut = cut } }
     {
         Counts {
             units: program.units.len(),
             webs: 0,
             kept: 0,
             arrays: 0,
-            cut: 0,
+            cut: cut as usize,
         }
     }
 }

@@ -1,8 +1,9 @@
 // Reads one statement from its characters.
-ghost use Rattle.std.specs.Prelude.{◌≡◌, ◌<◌, ◌==◌, length, IfOk, IfSome};
+ghost use Rattle.std.specs.Prelude.{◌≡◌, ◌<◌, ◌==◌, [], ◌∷◌, ◌++◌, length, IfOk, OnOk, IfSome};
 ghost use Rattle.std.specs.List.{position_from};
 ghost use Rattle.std.specs.Option.{option_map};
-ghost use Rattle.text_base.specs.Chars.{to_upper, characters};
+ghost use Rattle.text_base.specs.Chars.{to_upper};
+ghost use Rattle.text_base.specs.Kept.{read_characters};
 ghost use Rattle.tree77.specs.Reading.{read_assign, read_header, read_continue, read_stop, read_word, read_statement};
 ghost use Rattle.modern_cli.specs.StatementViews.{statement_of};
 
@@ -106,15 +107,27 @@ fn to_upper(byte: u8) -> u8
     }
 }
 
-/// The characters of a statement as they are read: blanks left out, lower-case letters as upper case.
-pub fn characters(alloc: Global, text: &[u8]) -> Result<Bytes, AllocError>
-    ensures { IfOk result (λ made. made ≡ characters text.now) }
+// Appends a character as it is read. The mark is 1 where it is kept text.
+fn read_character(made: &mut Bytes, byte: u8, mark: u8) -> Result<(), AllocError>
+    ensures { OnOk result (made.new ≡ made.old ++ read_characters (byte ∷ []) (mark ∷ [])) }
+{
+    if mark == 1 {
+        return made.push(byte);
+    }
+    if byte == b' ' {
+        return Ok(());
+    }
+    made.push(to_upper(byte))
+}
+
+/// The characters of a statement as they are read, from its text and the marks of its characters: outside kept text
+/// blanks are left out, and lower-case letters are upper case.
+pub fn characters(alloc: Global, text: &[u8], kept: &[u8]) -> Result<Bytes, AllocError>
+    ensures { IfOk result (λ made. made ≡ read_characters text.now kept.now) }
 {
     let mut made = Bytes::new(alloc);
-    for byte in text {
-        if *byte != b' ' {
-            made.push(to_upper(*byte))?;
-        }
+    for (byte, mark) in text.iter().zip(kept) {
+        read_character(&mut made, *byte, *mark)?;
     }
     Ok(made)
 }

@@ -302,63 +302,6 @@ fn comments_keep_every_byte(rt: HostRuntime) -> Result<(), Fail> {
 }
 
 #[test]
-fn what_is_no_source_is_refused(rt: HostRuntime) -> Result<(), Fail> {
-    let alloc = rt.alloc();
-    let cases: [&[u8]; 22] = [
-        // a line of 73 bytes
-        b"      PROGRAM T\n      I = 1                                                              \n      END\n",
-        // no END
-        b"      PROGRAM T\n      I = 1\n",
-        // END twice, and a statement after END
-        b"      PROGRAM T\n      I = 1\n      END\n      END\n",
-        b"      PROGRAM T\n      END\n      I = 1\n",
-        // a variable that isn't an integer, on either side
-        b"      PROGRAM T\n      A = 1\n      END\n",
-        b"      PROGRAM T\n      I = A\n      END\n",
-        // a variable of the program's name, on either side
-        b"      PROGRAM I\n      I = 1\n      END\n",
-        b"      PROGRAM I\n      J = I\n      END\n",
-        // a constant past the integers
-        b"      PROGRAM T\n      I = 2147483648\n      END\n",
-        b"      PROGRAM T\n      I = J - 2147483648\n      END\n",
-        // a name of 32 letters
-        b"      PROGRAM T\n      IIIIIIIIIIIIIIIIIIIIIIIIIIIIIIII = 1\n      END\n",
-        // two operators together, parentheses, another operator
-        b"      PROGRAM T\n      I = 2 + -3\n      END\n",
-        b"      PROGRAM T\n      I = (1)\n      END\n",
-        b"      PROGRAM T\n      J = I * 2\n      END\n",
-        // a missing side
-        b"      PROGRAM T\n      I =\n      END\n",
-        b"      PROGRAM T\n      = 1\n      END\n",
-        // a code of STOP, and a label
-        b"      PROGRAM T\n      STOP 1\n      END\n",
-        b"      PROGRAM T\n   10 CONTINUE\n      END\n",
-        // the source of a program, but for one operator
-        b"C     FIRST\n      PROGRAM T\n      I = 1\n*     NEXT\n      J = I * 2\n\n      STOP\n      END\n",
-        // comments alone
-        b"C     FIRST\n\n*     NEXT\n",
-        // an operator at the end
-        b"      PROGRAM T\n      I = 1 +\n      END\n",
-        // nothing
-        b"",
-    ];
-    for source in cases {
-        let words = words_of(alloc, &["one", "t.f", "o"])?;
-        let mut shelf = MemoryShelf::new(alloc);
-        shelf.hold("t.f", source)?;
-        let mut out = MemorySink::new(alloc, 2);
-        let status = modern(alloc, &words, &mut shelf, &mut out);
-        assert_eq!(rt; status, Status::Refused);
-        assert_eq!(rt; status.code(), 1);
-        assert_eq!(rt; out.bytes(), b"t.f:0: 99 NotBuilt 0\n".as_slice());
-        assert!(rt; shelf.held("o").is_none());
-        assert!(rt; shelf.held("o.map").is_none());
-        assert!(rt; shelf.held("o.report").is_none());
-    }
-    Ok(())
-}
-
-#[test]
 fn a_real_file_is_converted(rt: HostRuntime) -> Result<(), Fail> {
     let alloc = rt.alloc();
     let mut shelf = DiskShelf::new(&rt);

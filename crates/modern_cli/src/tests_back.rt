@@ -101,7 +101,7 @@ fn the_texts_of_a_program(rt: HostRuntime) -> Result<(), Fail> {
     let program = program(alloc, constants(alloc)?)?;
     let map = map_of(alloc, &program)?;
     assert!(rt; map.as_slice() == b"T.I 0 1 I T:I 1\nT.J 0 1 I T:J 1\n".as_slice());
-    let report = report(alloc, &Counts::of(&program))?;
+    let report = report(alloc, &Counts::of(&program, 0))?;
     assert!(rt; report.as_slice() == b"UNITS 1\nWEBS 0\nKEPT 0\nARRAYS 0\nCUT 0\n".as_slice());
     Ok(())
 }

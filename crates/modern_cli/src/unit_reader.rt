@@ -2,11 +2,10 @@
 ghost use Rattle.std.specs.Prelude.{◌≡◌, List, Option, map, IfOk};
 ghost use Rattle.std.specs.Option.{option_map, option_and_then};
 ghost use Rattle.text_base.specs.Cards as form;
-ghost use Rattle.text_base.specs.Chars.{characters};
 ghost use Rattle.card_reader.specs.Views.{card_of};
 ghost use Rattle.tree77.specs.Plain.{stmt_of_simple, stmt_of, unit_of};
 ghost use Rattle.tree77.specs.Reading as reading;
-ghost use Rattle.tree77.specs.Reading.{join_items, read_statement, read_items, read_unit};
+ghost use Rattle.tree77.specs.Reading.{join_items, read_card, read_items, read_unit};
 ghost use Rattle.modern_cli.specs.StatementViews.{statement_of, items_of, adds};
 
 use crate::statement::{Statement, characters, spelled};
@@ -16,10 +15,14 @@ use std::alloc::{AllocError, Global};
 use text_base::{Name, Place};
 use tree77::{Body77, EndIf, Expr, Item77, Items77, Stmt77, Unit77, UnitKind};
 
-fn card_statement(alloc: Global, card: &Card) -> Result<Option<Statement>, AllocError>
-    ensures { IfOk result (λ s. option_map statement_of s ≡ read_statement (characters card.now.text)) }
+/// The statement that a card without a label spells. `None` where it has a label or spells none.
+pub fn card_statement(alloc: Global, card: &Card) -> Result<Option<Statement>, AllocError>
+    ensures { IfOk result (λ s. option_map statement_of s ≡ read_card (card_of card.now)) }
 {
-    let characters = characters(alloc, card.text.as_slice())?;
+    if card.label != 0 {
+        return Ok(None);
+    }
+    let characters = characters(alloc, card.text.as_slice(), card.kept.as_slice())?;
     spelled(alloc, characters.as_slice())
 }
 
@@ -46,7 +49,7 @@ enum Step {
 #[tactic(auto, using(tree77::proofs::Plains::equations))]
 fn read_step(alloc: Global, card: &Card) -> Result<Step, AllocError>
     ensures { IfOk result (λ step. (rest : List form.Card) (more : Option reading.Items) → adds step rest more
-        ≡ option_and_then (λ s. join_items (card_of card.now) s rest more) (read_statement (characters card.now.text))) }
+        ≡ option_and_then (λ s. join_items (card_of card.now) s rest more) (read_card (card_of card.now))) }
 {
     match card_statement(alloc, card)? {
         Some(Statement::Assign(variable, value)) => {
@@ -84,7 +87,8 @@ fn read_list(alloc: Global, cards: &[Card]) -> Result<Option<(Items77, EndIf)>, 
     Ok(None)
 }
 
-/// The main program that the cards spell: a PROGRAM statement, assignments, CONTINUE and STOP, and END. `None` where they spell none.
+/// The main program that the cards spell: a PROGRAM statement, assignments, CONTINUE and STOP, and END. `None` where they
+/// spell none.
 pub fn read_cards_unit(alloc: Global, cards: &[Card]) -> Result<Option<Unit77>, AllocError>
     ensures { IfOk result (λ unit. option_map unit_of unit ≡ read_unit (map card_of cards.now)) }
 {

@@ -130,7 +130,7 @@ fn written_item(alloc: Global, comments: Comments, item: &Item77) -> Result<Item
 }
 
 /// The one statement that is written for this one, or none for a CONTINUE.
-fn written_simple(alloc: Global, stmt: &Stmt77) -> Result<Stmts90, AllocError>
+pub(crate) fn written_simple(alloc: Global, stmt: &Stmt77) -> Result<Stmts90, AllocError>
     ensures { IfOk result (λ made. map free.stmt_of made ≡ statements_of (source.stmt_of_simple stmt.now)) }
 {
     match stmt {

@@ -1,6 +1,10 @@
 pub mod Causes
 pub mod Chars
+pub mod Lines
+pub mod Kept
 pub mod Cards
+pub mod CommentLines
+pub mod LineRefusals
 pub mod Faults
 pub mod Files
 pub mod Put

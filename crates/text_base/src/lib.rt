@@ -3,6 +3,7 @@
 
 mod bytes;
 mod disk;
+mod laws;
 mod memory_shelf;
 mod memory_sink;
 mod name;
@@ -15,6 +16,7 @@ mod tests;
 
 pub use bytes::Bytes;
 pub use disk::{DiskShelf, StdSink};
+pub use laws::{comments_stand_between_statements, kept_is_by_pieces};
 pub use memory_shelf::MemoryShelf;
 pub use memory_sink::MemorySink;
 pub use name::Name;

@@ -4,8 +4,11 @@ use Rattle.std.specs.List.{list_all, position_from}
 use Rattle.std.specs.Option.{option_map, option_and_then}
 use Rattle.std.specs.Str.{bytes_eq}
 use Rattle.std.specs.Str.Parse.{digits_value}
-use Rattle.text_base.specs.Cards.{Card, cards, is_readable}
-use Rattle.text_base.specs.Chars.{is_digit, is_name, characters}
+use Rattle.text_base.specs.Cards.{Card, cards}
+use Rattle.text_base.specs.Chars.{is_digit, is_name}
+use Rattle.text_base.specs.Kept.{read_characters}
+use Rattle.text_base.specs.LineRefusals.{card_refusals}
+use Rattle.text_base.specs.declared.refusal.Refusal.{Refusal}
 use Rattle.text_base.specs.Trees.{UnaryOp, plus, minus, BinaryOp, add, subtract, Expr, int, name, unary, binary, assign, stop}
 use Rattle.text_base.specs.declared.refusal.Place.{Place}
 use Rattle.tree77.specs.Tree as tree
@@ -85,6 +88,10 @@ read_statement text = read_parts text (position_from (λ c. c == 61) 0 text)
 
 -- ---- lists and units
 
+-- the statement that a card without a label spells
+abbrev pub read_card : Card → Option Statement
+read_card card = if card.label == 0 then read_statement (read_characters card.text card.kept) else None
+
 -- a list with its END
 abbrev pub Items : Type 0
 Items = Code × Place
@@ -104,7 +111,7 @@ join_items card end rest more = ended_at card.place rest
 -- the list that the cards spell
 abbrev pub read_items : List Card → Option Items
 read_items [] = None
-read_items (card ∷ rest) = option_and_then (λ s. join_items card s rest (read_items rest)) (read_statement (characters card.text))
+read_items (card ∷ rest) = option_and_then (λ s. join_items card s rest (read_items rest)) (read_card card)
 
 abbrev pub unit_with : Card → Statement → Option Items → Option SourceUnit
 unit_with card (program x) items = option_map (λ (r : Items). record { name = x; place = card.place; code = r.0; end = r.1 }) items
@@ -114,11 +121,17 @@ unit_with card end items = None
 
 abbrev pub read_unit : List Card → Option SourceUnit
 read_unit [] = None
-read_unit (card ∷ rest) = option_and_then (λ s. unit_with card s (read_items rest)) (read_statement (characters card.text))
+read_unit (card ∷ rest) = option_and_then (λ s. unit_with card s (read_items rest)) (read_card card)
 
 abbrev pub typed_unit : SourceUnit → Option SourceUnit
 typed_unit unit = if is_typed unit then Some unit else None
 
+-- what is read where nothing is refused
+abbrev pub unless_refused : {X : Type 0} → List Refusal → Option X → Option X
+unless_refused [] read = read
+unless_refused (first ∷ rest) read = None
+
 -- the program that the bytes of a file are the source of
 abbrev pub read_source : ℕ → List ℕ → Option SourceProgram
-read_source file bytes = if is_readable bytes then option_map (λ (unit : SourceUnit). record { units = unit ∷ [] }) (option_and_then typed_unit (read_unit (cards file bytes))) else None
+read_source file bytes =
+    unless_refused (card_refusals file bytes) (option_map (λ (unit : SourceUnit). record { units = unit ∷ [] }) (option_and_then typed_unit (read_unit (cards file bytes))))

@@ -4,14 +4,17 @@ ghost use Rattle.std.specs.List.{list_all};
 ghost use Rattle.std.specs.Option.{option_and_then};
 ghost use Rattle.text_base.specs.Trees.{Expr};
 ghost use Rattle.tree77.specs.Tree.{SourceProgram};
-ghost use Rattle.tree77.specs.Source.{IsSource};
+ghost use Rattle.text_base.specs.Cards.{Card};
+ghost use Rattle.tree77.specs.Source.{SpellsCard, IsSource};
 ghost use Rattle.tree77.specs.Spelling.{Statement, Spells};
-ghost use Rattle.tree77.specs.Reading.{read_operand, read_sum, resume, is_inner, Stops, read_statement, read_source};
+ghost use Rattle.tree77.specs.Reading.{read_operand, read_sum, resume, is_inner, Stops, read_statement, read_card, read_source};
 
 /// The reading of statements and of sources as functions gives what is spelled, and all that is spelled.
 pub fn reading_is_spelling()
     ensures statement_found { (text : List ℕ) (s : Statement) → read_statement text ≡ Some s → Spells text s }
     ensures statement_only { (text : List ℕ) (s : Statement) → Spells text s → read_statement text ≡ Some s }
+    ensures card_found { (card : Card) (s : Statement) → read_card card ≡ Some s → SpellsCard card s }
+    ensures card_only { (card : Card) (s : Statement) → SpellsCard card s → read_card card ≡ Some s }
     ensures source_found { (file : ℕ) (bytes : List ℕ) (p : SourceProgram) → read_source file bytes ≡ Some p → IsSource file bytes p }
     ensures source_only { (file : ℕ) (bytes : List ℕ) (p : SourceProgram) → IsSource file bytes p → read_source file bytes ≡ Some p }
 {}

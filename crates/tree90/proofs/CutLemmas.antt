@@ -2,7 +2,7 @@
 use Rattle.std.proofs.Common.{◌≡◌, ℕ, zero, suc, ◌==◌, Bool, true, false, not, ◌&&◌, List, [], ◌∷◌, ◌++◌, map, refl, ap, ◌∙◌, append_assoc, arith}
 use Rattle.std.specs.Prelude.{min, ◌*◌, replicate, drop, if◌then◌else◌}
 use Rattle.std.proofs.lemmas.Bool.{eqb-true, not-true}
-use Rattle.text_base.specs.Cards.{with_first, cut, is_blank}
+use Rattle.text_base.specs.Lines.{with_first, cut, is_blank}
 use Rattle.text_base.specs.Chars.{is_name_byte}
 use Rattle.tree90.specs.FreeText.{tokens, FreeLine, comment_line, statement_line, starts_comment, line_of, comment_lines}
 use Rattle.tree90.specs.Printed.{line, remark_text, remarks_text}

@@ -1,6 +1,6 @@
 -- A text has at most one reading.
 use Rattle.std.proofs.Common.{◌≡◌, ℕ, List, [], ◌∷◌, ◌++◌, map, refl, sym, ◌∙◌, subst}
-use Rattle.text_base.specs.Cards.{cut}
+use Rattle.text_base.specs.Lines.{cut}
 use Rattle.tree90.specs.Tree.{Remark, Code, done, item, Declared, FreeUnit, FreeProgram}
 use Rattle.tree90.specs.FreeText.{FreeStatement, header, implicit_none, save, declaration, executable, end, SpellsFree, FreeLine, statement_line, line_of, comment_lines, SpellsNext, SpellsParts, SpellsCode, SpellsUnit, SpellsUnits, SpellsText}
 use Rattle.tree90.proofs.TokenReading.{free_unique}

@@ -2,7 +2,7 @@
 -- a relation between a text and a plain program with its comments. No statement of these forms is continued.
 use Rattle.std.specs.Prelude.{◌≡◌, ℕ, Bool, true, false, ◌&&◌, ◌||◌, ◌==◌, nat_le, IsTrue, List, [], ◌∷◌, ◌++◌, length, drop, map, codes, if◌then◌else◌}
 use Rattle.std.specs.List.{list_all}
-use Rattle.text_base.specs.Cards.{cut, is_blank}
+use Rattle.text_base.specs.Lines.{cut, is_blank}
 use Rattle.text_base.specs.Chars.{is_upper, is_digit, is_name, to_upper}
 use Rattle.text_base.specs.Constants.{SpellsOperand, IsSign, IsOperator}
 use Rattle.text_base.specs.Trees.{UnaryOp, BinaryOp, Expr, name, unary, binary, assign, stop}

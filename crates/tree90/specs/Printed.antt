@@ -1,5 +1,5 @@
--- The one text of a Fortran 90 program (ISO/IEC 1539:1991 section 3.3). No line of a program of this language
--- has more than 132 characters, so none is continued.
+-- The one text of a Fortran 90 program (ISO/IEC 1539:1991 section 3.3). A program that can be written has no line of
+-- more than 132 characters, so none is continued.
 use Rattle.std.specs.Prelude.{ℕ, ◌*◌, List, [], ◌∷◌, ◌++◌, min, replicate, codes, flat_map, if◌then◌else◌}
 use Rattle.std.specs.Fmt.{signed_decimal}
 use Rattle.text_base.specs.Trees.{UnaryOp, plus, minus, BinaryOp, add, subtract, Expr, int, name, unary, binary, Action, assign, stop}

@@ -2,7 +2,7 @@
 use Rattle.std.specs.Prelude.{◌≡◌, ℕ, ◌≤◌, Bool, true, not, ◌&&◌, ◌==◌, nat_le, IsTrue, List, [], ◌∷◌, ◌++◌, length, map, pos, if◌then◌else◌}
 use Rattle.std.specs.List.{list_all, list_any}
 use Rattle.std.specs.Str.{bytes_eq}
-use Rattle.text_base.specs.Cards.{cut, is_blank}
+use Rattle.text_base.specs.Lines.{cut, is_blank}
 use Rattle.text_base.specs.Chars.{is_name}
 use Rattle.text_base.specs.Trees.{UnaryOp, BinaryOp, Expr, int, name, unary, binary, Action, assign, stop}
 use Rattle.tree90.specs.Tree.{Remark, Stmt, simple, Code, done, item, Declared, integer_object, FreeUnit, FreeProgram}

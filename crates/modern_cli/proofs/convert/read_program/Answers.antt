@@ -1,16 +1,20 @@
-use Rattle.std.proofs.Common.{◌≡◌, ◌∙◌, None, Some, Option, ap, sym}
+use Rattle.std.proofs.Common.{◌≡◌, ◌∙◌, [], map, Some, ap, sym, rules}
 use Rattle.std.specs.Option.{option_map}
-use Rattle.tree77.specs.Tree.{SourceProgram}
-use Rattle.tree77.specs.Plain.{program_of}
-use Rattle.tree77.specs.Reading.{read_source}
-use Rattle.modern_cli.specs.declared.convert.Source.{Source}
+use Rattle.text_base.specs.Cards.{cards}
+use Rattle.tree77.specs.Plain.{unit_of, program_of}
+use Rattle.tree77.specs.Reading.{read_unit}
+use Rattle.card_reader.specs.Views.{card_of}
+use Rattle.modern_cli.specs.Refusals.{statement_refusals}
+use Rattle.modern_cli.proofs.BuiltLemmas.{converted}
 use Rattle.modern_cli.proofs.convert.read_program.Goals as goal
 
-pub returns-in_ok-not_built-in-None-clause-refused : goal.returns-in_ok-not_built-in-None-clause-refused
-returns-in_ok-not_built-in-None-clause-refused c = (
-  c.in_ok-not_built-in-None.ensures,
-  λ p source.
-      let read : ◌≡◌ {A = Option SourceProgram} (option_map (λ (s : Source). program_of s.program) c.in_ok-source.field-0) (read_source 0 c.args.bytes.now) = c.in_ok-source.ensures.program in
-      let none : ◌≡◌ {A = Option SourceProgram} None (Some p) = sym (ap (option_map (λ (s : Source). program_of s.program)) c.in-None.is) ∙ read ∙ c.reading_is_spelling.ensures.source_only 0 c.args.bytes.now p source in
-      cc,
-)
+pub returns-clause-found : goal.returns-clause-found
+returns-clause-found c =
+    let bytes = c.args.bytes.now in
+    let statements : map card_of c.statements.result.now ≡ cards 0 bytes = ap (map card_of) c.statements.ensures ∙ c.in_ok-deck.ensures.cards in
+    let again : map card_of c.statements-2.result.now ≡ cards 0 bytes = ap (map card_of) c.statements-2.ensures ∙ c.in_ok-deck.ensures.cards in
+    let empty : c.in_ok-refusals.refusals ≡ [] = search rules in
+    let none : statement_refusals (cards 0 bytes) ≡ [] = sym (ap statement_refusals statements) ∙ sym c.in_ok-refusals.ensures ∙ empty in
+    let unit : read_unit (cards 0 bytes) ≡ Some (unit_of c.in-Some.unit) = sym (ap read_unit again) ∙ sym c.in_ok-unit.ensures ∙ ap (option_map unit_of) c.in-Some.is in
+    converted bytes (unit_of c.in-Some.unit) (program_of c.in_ok-program.program) (c.reading_is_spelling.ensures.source_found 0 bytes)
+    c.in_ok-deck.ensures.accepted none unit c.in_ok-program.ensures

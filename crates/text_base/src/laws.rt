@@ -1,0 +1,17 @@
+// What holds of the definitions of kept text and of comments.
+ghost use Rattle.std.specs.Prelude.{◌≡◌, ◌<◌, ℕ, List, length};
+ghost use Rattle.text_base.specs.Kept.{is_format, IsMarked, kept};
+ghost use Rattle.text_base.specs.Cards.{comments};
+ghost use Rattle.text_base.specs.CommentLines.{comments_by_lines};
+
+/// The marks of a statement are those of its pieces, plain text and kept text in turn, and no others. A statement of a
+/// file has fewer characters than the number here.
+pub fn kept_is_by_pieces()
+    ensures marked { (label : ℕ) (text : List ℕ) → length text < 4294967295 → IsMarked (is_format label text) text (kept label text) }
+    ensures only { (label : ℕ) (text marks : List ℕ) → length text < 4294967295 → IsMarked (is_format label text) text marks → marks ≡ kept label text }
+{}
+
+/// What is counted before a comment are the statements of the file whose last line stands before it.
+pub fn comments_stand_between_statements()
+    ensures { (bytes : List ℕ) → comments bytes ≡ comments_by_lines bytes }
+{}
