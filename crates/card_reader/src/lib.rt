@@ -20,6 +20,7 @@ pub use cards_error::CardsError;
 pub use comment::{Comment, Comments};
 pub use deck::Deck;
 pub use reader::read_cards;
+pub use scan::Scan;
 
 #[cfg(test)]
 mod tests;

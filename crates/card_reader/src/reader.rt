@@ -40,10 +40,11 @@ fn too_large(alloc: Global, file: u32, size: usize) -> Result<Refusals, AllocErr
 /// it is an initial line where column 6 has a blank or 0, and a continuation line elsewhere. Columns 7 to 72 of its
 /// lines are the characters of a statement; comments may stand between them.
 ///
-/// Out: the deck, or `Refused` where the file has more than 16 MiB, or a line that has more than 132 bytes, a bad label
-/// field, a bad character, no initial line before it, or 99 continuation lines of its statement before it. The list has
-/// each such line, in order, with the first of these causes. Either may give way to `Memory`, for want of memory, which
-/// says nothing of the file.
+/// Out: the deck, or `Refused` where the file has more than 16 MiB, or a line, in this order of causes, that has more
+/// than 132 bytes, a bad label field, or, on a continuation line, no initial line before it or 99 continuation lines of
+/// its statement, or a bad character. The list has each such line, in order, with the first of these causes that applies;
+/// of the continuation lines of a statement only the 100th is one too many. Either may give way to `Memory`, for want of
+/// memory, which says nothing of the file.
 pub fn read_cards(alloc: Global, file: u32, bytes: &[u8]) -> Result<Deck, CardsError>
     ensures cards { IfOk result (λ deck. map card_of deck.statements ≡ form.cards file bytes.now) }
     ensures comments { IfOk result (λ deck. map comment_of deck.comments ≡ form.comments bytes.now) }

@@ -1,5 +1,5 @@
 // Kept text: the characters of a statement that are read as they stand (X3.9 sections 4.8 and 13.5.2).
-ghost use Rattle.std.specs.Prelude.{◌≡◌, ◌<◌, true};
+ghost use Rattle.std.specs.Prelude.{◌≡◌, ◌==◌, not, ◌<◌, true};
 ghost use Rattle.text_base.specs.Chars.{is_digit, to_upper};
 ghost use Rattle.text_base.specs.Kept as form;
 ghost use Rattle.card_reader.specs.Views.{scan_of};
@@ -12,8 +12,9 @@ const FORMAT: [u8; 7] = *b"FORMAT(";
 /// More characters than any statement has.
 const MOST: u64 = 4_294_967_295;
 
-/// What the characters of a statement so far say of those that follow.
-#[derive(Clone, Copy, Drop)]
+/// What the characters of a statement so far say of those that follow: which of them are kept text (X3.9 sections 4.8
+/// and 13.5.2).
+#[derive(Clone, Copy, Debug)]
 pub struct Scan {
     /// How many characters of `FORMAT(` it begins with, 8 where it begins otherwise or has no label.
     matched: u32,
@@ -36,6 +37,20 @@ impl Scan {
             left: 0,
             count: None,
         }
+    }
+
+    /// Whether a character constant is open.
+    pub fn is_inside(self) -> bool
+        ensures { result ≡ (scan_of self).inside }
+    {
+        self.inside
+    }
+
+    /// Whether characters of an nH text are still to come.
+    pub fn is_counting(self) -> bool
+        ensures { result ≡ not ((scan_of self).left == 0) }
+    {
+        self.left != 0
     }
 
     /// The mark of a character: 1 where it belongs to kept text.

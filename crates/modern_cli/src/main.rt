@@ -25,25 +25,38 @@ mod written;
 pub use laws::written_is_proper;
 pub use memory::in_memory;
 pub use status::Status;
+use std::alloc::AllocError;
 use std::env;
+use std::io::ErrorKind;
 use std::process::ExitCode;
 use text_base::{DiskShelf, StdSink};
 pub use top::modern;
 
-// Arguments that can't be had form no command.
-fn main(rt: HostRuntime) -> ExitCode {
-    let alloc = rt.alloc();
-    let mut words = Vec::new(alloc);
-    if let Ok(args) = env::args(&rt) {
-        for word in args.skip(1) {
-            if words.push(word).is_err() {
-                return ExitCode::from(Status::Memory.code());
+// The words after the program's own name. Where one of them can't be had they form no command.
+fn arguments(rt: &HostRuntime) -> Result<Vec<String>, AllocError> {
+    let mut words = Vec::new(rt.alloc());
+    match env::args(rt) {
+        Ok(args) => {
+            for word in args.skip(1) {
+                words.push(word)?;
+            }
+        }
+        Err(error) => {
+            if error.kind() == ErrorKind::OutOfMemory {
+                return Err(AllocError);
             }
         }
     }
+    Ok(words)
+}
+
+fn main(rt: HostRuntime) -> ExitCode {
+    let Ok(words) = arguments(&rt) else {
+        return ExitCode::from(Status::Memory.code());
+    };
     let mut shelf = DiskShelf::new(&rt);
     let mut out = StdSink::new(&rt);
-    let status = modern(alloc, &words, &mut shelf, &mut out);
+    let status = modern(rt.alloc(), &words, &mut shelf, &mut out);
     ExitCode::from(status.code())
 }
 

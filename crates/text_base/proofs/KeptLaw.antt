@@ -32,10 +32,10 @@ open_marks f plain inside is_plain is_inside =
     ∙ ap (λ (ms : List ℕ). nothing_kept plain ++ 1 ∷ ms) (inside_marks f inside [] is_inside ∙ append-nil (all_kept inside))
 
 -- as many characters as the number says, or as there are
-abbrev IsCounted : List ℕ → List ℕ → ℕ → Type 0
+abbrev pub IsCounted : List ℕ → List ℕ → ℕ → Type 0
 IsCounted inside rest n = (length inside ≡ n) ⊎ ((length inside ≤ n) × (rest ≡ []))
 
-counted : (ds : List ℕ) → ds ≢ [] → count_or_none (count_of ds) ≡ min (digits_value 10 ds) most
+pub counted : (ds : List ℕ) → ds ≢ [] → count_or_none (count_of ds) ≡ min (digits_value 10 ds) most
 counted [] some = absurd (some refl)
 counted (d ∷ ds) some = refl
 
@@ -64,10 +64,10 @@ count_marks f plain h inside rest is is_plain some letter counts short =
 
 -- ---- lengths of pieces
 
-rest_shorter : (plain : List ℕ) (c : ℕ) (rest : List ℕ) → length rest < length (plain ++ c ∷ rest)
+pub rest_shorter : (plain : List ℕ) (c : ℕ) (rest : List ℕ) → length rest < length (plain ++ c ∷ rest)
 rest_shorter plain c rest = let whole = length-append plain (c ∷ rest) in omega (arith, whole)
 
-inner_no_longer : (inside rest : List ℕ) → (length inside ≤ length (inside ++ rest)) × (length rest ≤ length (inside ++ rest))
+pub inner_no_longer : (inside rest : List ℕ) → (length inside ≤ length (inside ++ rest)) × (length rest ≤ length (inside ++ rest))
 inner_no_longer inside rest = let whole = length-append inside rest in (omega (arith, whole), omega (arith, whole))
 
 -- ---- no others
@@ -96,7 +96,7 @@ only_marks f text marks short (marked_count {rest = rest} {more = more} plain h 
 -- ---- those of its pieces
 
 -- where a character constant ends
-data Ends : List ℕ → Type 0 where
+pub data Ends : List ℕ → Type 0 where
   ends_never : {text : List ℕ} → IsInside text → Ends text
   ends_after : {text : List ℕ} (inside rest : List ℕ) → IsInside inside → slice_index rest 0 ≢ 39 → text ≡ inside ++ 39 ∷ rest → Ends text
 
@@ -108,7 +108,7 @@ ends_doubled : (t : List ℕ) → Ends t → Ends (39 ∷ 39 ∷ t)
 ends_doubled t (ends_never inner) = ends_never (inside_doubled refl inner)
 ends_doubled t (ends_after inside rest inner apart e) = ends_after (39 ∷ 39 ∷ inside) rest (inside_doubled refl inner) apart (ap (λ (xs : List ℕ). 39 ∷ 39 ∷ xs) e)
 
-ends : (text : List ℕ) → Ends text
+pub ends : (text : List ℕ) → Ends text
 ends [] = ends_never (inside_nothing refl)
 ends (c ∷ []) = go (c == 39) refl
   where

@@ -57,7 +57,7 @@ quiet_plain f text quiet = record {
 
 -- ---- its marks
 
-count_none : (ds : List ℕ) → ds ≡ [] → count_of ds ≡ None
+pub count_none : (ds : List ℕ) → ds ≡ [] → count_of ds ≡ None
 count_none ds e = ap count_of e
 
 marks_after : (f : Bool) (before text rest : List ℕ) → IsQuiet f before text

@@ -2,6 +2,7 @@ pub mod Causes
 pub mod Chars
 pub mod Lines
 pub mod Kept
+pub mod Pieces
 pub mod Cards
 pub mod CommentLines
 pub mod LineRefusals

@@ -1,7 +1,8 @@
-// What holds of the definitions of kept text and of comments.
-ghost use Rattle.std.specs.Prelude.{◌≡◌, ◌<◌, ℕ, List, length};
-ghost use Rattle.text_base.specs.Kept.{is_format, IsMarked, kept};
-ghost use Rattle.text_base.specs.Cards.{comments};
+// What holds of the definitions of kept text, pieces, statements and comments.
+ghost use Rattle.std.specs.Prelude.{◌≡◌, ◌<◌, ◌≤◌, All, ℕ, List, length, flat_map};
+ghost use Rattle.text_base.specs.Kept.{is_format, IsMarked, kept, read_characters};
+ghost use Rattle.text_base.specs.Pieces.{Piece, IsPieces, piece_text, pieces_of};
+ghost use Rattle.text_base.specs.Cards.{cards, comments};
 ghost use Rattle.text_base.specs.CommentLines.{comments_by_lines};
 
 /// The marks of a statement are those of its pieces, plain text and kept text in turn, and no others. A statement of a
@@ -14,4 +15,18 @@ pub fn kept_is_by_pieces()
 /// What is counted before a comment are the statements of the file whose last line stands before it.
 pub fn comments_stand_between_statements()
     ensures { (bytes : List ℕ) → comments bytes ≡ comments_by_lines bytes }
+{}
+
+/// A statement has one list of pieces, which the reading of its characters one after another gives, and their characters
+/// are those of the statement as they are read. A statement of a file has fewer characters than the number here.
+pub fn one_list_of_pieces()
+    ensures found { (label : ℕ) (text : List ℕ) → length text < 4294967295 → IsPieces (is_format label text) text (pieces_of label text) }
+    ensures only { (label : ℕ) (text : List ℕ) (pieces : List Piece) → length text < 4294967295 → IsPieces (is_format label text) text pieces → pieces ≡ pieces_of label text }
+    ensures joined { (label : ℕ) (text : List ℕ) → flat_map piece_text (pieces_of label text) ≡ read_characters text (kept label text) }
+{}
+
+/// The statements of a file have the marks of their characters, and fewer characters than the other laws ask for.
+pub fn cards_are_marked()
+    ensures marked { (file : ℕ) (bytes : List ℕ) → All (λ card. card.kept ≡ kept card.label card.text) (cards file bytes) }
+    ensures short { (file : ℕ) (bytes : List ℕ) → length bytes ≤ 16777216 → All (λ card. length card.text < 4294967295) (cards file bytes) }
 {}

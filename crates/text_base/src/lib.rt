@@ -16,7 +16,9 @@ mod tests;
 
 pub use bytes::Bytes;
 pub use disk::{DiskShelf, StdSink};
-pub use laws::{comments_stand_between_statements, kept_is_by_pieces};
+pub use laws::{
+    cards_are_marked, comments_stand_between_statements, kept_is_by_pieces, one_list_of_pieces,
+};
 pub use memory_shelf::MemoryShelf;
 pub use memory_sink::MemorySink;
 pub use name::Name;

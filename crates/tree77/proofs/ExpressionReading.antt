@@ -43,7 +43,7 @@ is_the_constant u v c =
     not_empty (c ∷ u) lt = grind (arith, common_steps)
 
 -- a name begins with a letter, so it is no constant
-digit_is_no_letter : (c : ℕ) → is_digit c ≡ true → is_upper c ≡ true → ⊥
+pub digit_is_no_letter : (c : ℕ) → is_digit c ≡ true → is_upper c ≡ true → ⊥
 digit_is_no_letter c digit upper =
     let d = both_true (nat_le 48 c) (nat_le c 57) digit in
     let l = both_true (nat_le 65 c) (nat_le c 90) upper in

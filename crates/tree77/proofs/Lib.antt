@@ -1,4 +1,13 @@
+pub mod Optional
 pub mod Plains
 pub mod ExpressionReading
 pub mod StatementReading
 pub mod SourceReading
+pub mod KindParts
+pub mod KindSteps
+pub mod KindWords
+pub mod KindFunction
+pub mod KindLaw
+pub mod FormatLaw
+pub mod TokenCut
+pub mod TokenStuck

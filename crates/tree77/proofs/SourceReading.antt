@@ -13,26 +13,8 @@ use Rattle.tree77.specs.Spelling.{Statement, program, action, continue, end}
 use Rattle.tree77.specs.Typing.{is_typed}
 use Rattle.tree77.specs.Source.{SpellsCard, SpellsItems, SpellsUnit, IsSource}
 use Rattle.tree77.specs.Reading.{read_statement, read_card, unless_refused, Items, join_items, read_items, unit_with, read_unit, typed_unit, read_source}
+use Rattle.tree77.proofs.Optional.{went, mapped}
 use Rattle.tree77.proofs.StatementReading.{is_spelled, is_read}
-
--- a step that gives something had something to go on from
-record Went {A B : Type 0} (o : Option A) (f : A → Option B) (y : B) : Type 0 where
-  from : A
-  was : o ≡ Some from
-  is : f from ≡ Some y
-
-went : {A B : Type 0} (o : Option A) (f : A → Option B) (y : B) → option_and_then f o ≡ Some y → Went o f y
-went None f y e = absurd cc
-went (Some x) f y e = record { from = x; was = refl; is = e }
-
-record Mapped {A B : Type 0} (o : Option A) (f : A → B) (y : B) : Type 0 where
-  from : A
-  was : o ≡ Some from
-  is : f from ≡ y
-
-mapped : {A B : Type 0} (o : Option A) (f : A → B) (y : B) → option_map f o ≡ Some y → Mapped o f y
-mapped None f y e = absurd cc
-mapped (Some x) f y e = record { from = x; was = refl; is = cc }
 
 -- ---- cards
 

@@ -4,5 +4,8 @@ pub mod Spelling
 pub mod Typing
 pub mod Source
 pub mod Reading
+pub mod Kinds
+pub mod KindReading
+pub mod Tokens
 pub mod Layout
 pub mod Meaning

@@ -1,0 +1,3 @@
+pub mod SameKind
+pub mod TokenSteps
+pub mod TokenAnswers
