@@ -1,11 +1,11 @@
 // The columns of a line (X3.9 section 3.2).
 ghost use Rattle.std.specs.Prelude.{◌≡◌, IfOk, take, drop, slice_index_or};
-ghost use Rattle.text_base.specs.Chars.{is_digit};
 ghost use Rattle.text_base.specs.Lines as form;
 
 use crate::lines::{behind, first};
 use std::alloc::{AllocError, Global};
 use text_base::Bytes;
+use text_base::chars::is_digit;
 
 const BLANK: u8 = 32;
 
@@ -53,12 +53,6 @@ pub fn label_field(line: &[u8]) -> &[u8]
     ensures { result.now ≡ form.label_field line.now }
 {
     first(5, line)
-}
-
-pub fn is_digit(byte: u8) -> bool
-    ensures { result ≡ is_digit byte }
-{
-    48 <= byte && byte <= 57
 }
 
 /// The statement label of an initial line, 0 where it has none.

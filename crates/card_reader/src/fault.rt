@@ -4,8 +4,9 @@ ghost use Rattle.std.specs.Option.{option_map};
 ghost use Rattle.text_base.specs.LineRefusals as form;
 ghost use Rattle.card_reader.specs.Views.{fault_of};
 
-use crate::columns::{is_blank, is_digit, label_field, label_of};
+use crate::columns::{is_blank, label_field, label_of};
 use std::alloc::{AllocError, Global};
+use text_base::chars::is_digit;
 use text_base::{Bytes, Cause, Place, Refusal};
 
 /// A cause, and the number that it names: a column or a length.

@@ -1,10 +1,10 @@
 // Kept text: the characters of a statement that are read as they stand (X3.9 sections 4.8 and 13.5.2).
 ghost use Rattle.std.specs.Prelude.{◌≡◌, ◌==◌, not, ◌<◌, true};
-ghost use Rattle.text_base.specs.Chars.{is_digit, to_upper};
+ghost use Rattle.text_base.specs.Chars.{is_digit};
 ghost use Rattle.text_base.specs.Kept as form;
 ghost use Rattle.card_reader.specs.Views.{scan_of};
 
-use crate::columns::is_digit;
+use text_base::chars::{is_digit, to_upper};
 
 /// With these characters a FORMAT statement begins.
 const FORMAT: [u8; 7] = *b"FORMAT(";
@@ -131,16 +131,6 @@ fn more_count(count: Option<u32>, digit: u8) -> Option<u32>
     match count {
         None => Some(u32::from(digit - 48)),
         Some(count) => Some((u64::from(count) * 10 + value).min(MOST) as u32),
-    }
-}
-
-fn to_upper(byte: u8) -> u8
-    ensures { result ≡ to_upper byte }
-{
-    if 97 <= byte && byte <= 122 {
-        byte - 32
-    } else {
-        byte
     }
 }
 

@@ -1,31 +1,13 @@
 -- The comments of a file are in order, and lists of comments are cut by how many statements stand before them.
 use Rattle.std.proofs.Common.{◌≡◌, ℕ, ◌+◌, ◌-◌, ◌<◌, ◌≤◌, ◌==◌, Bool, true, false, not, ◌||◌, cond, List, [], ◌∷◌, ◌++◌, drop, refl, sym, ap, ◌∙◌, subst, arith}
-use Rattle.std.specs.Prelude.{nat_le, nat_lt}
+use Rattle.std.specs.Prelude.{nat_le}
+use Rattle.std.proofs.lemmas.Bool.{and_from, and_parts, le-leb, lt-leb, leb-true, eq-eqb}
 use Rattle.text_base.specs.Lines.{lines, is_blank, is_marked, is_comment, is_initial}
 use Rattle.text_base.specs.Cards.{Comment, comment_of, goes_on, whole_before, comments_of, comments}
 use Rattle.modern_cli.specs.Written.{comments_at, comments_from}
 use Rattle.modern_cli.specs.Remarks.{is_ascending}
-use Rattle.modern_cli.proofs.Names.{both_true, true_both}
 
 -- ---- numbers
-
-pub le_true : (a b : ℕ) → a ≤ b → nat_le a b ≡ true
-le_true a b le = grind (arith, le)
-
-pub le_false : (a b : ℕ) → b < a → nat_le a b ≡ false
-le_false a b lt = grind (arith, lt)
-
-pub true_le : (a b : ℕ) → nat_le a b ≡ true → a ≤ b
-true_le a b e = grind (arith, e)
-
-pub lt_true : (a b : ℕ) → a < b → nat_lt a b ≡ true
-lt_true a b lt = grind (arith, lt)
-
-pub lt_false : (a b : ℕ) → b ≤ a → nat_lt a b ≡ false
-lt_false a b le = grind (arith, le)
-
-pub eq_true : (a b : ℕ) → a ≡ b → (a == b) ≡ true
-eq_true a b e = grind (arith, e)
 
 pub less_differs : (a b : ℕ) → a < b → (a == b) ≡ false
 less_differs a b lt = grind (arith, lt)
@@ -42,14 +24,14 @@ pub order : (a b : ℕ) → Order a b
 order a b = go (nat_le a b) refl (nat_le b a) refl
   where
     go : (p : Bool) → nat_le a b ≡ p → (q : Bool) → nat_le b a ≡ q → Order a b
-    go true e true f = same (omega (arith, true_le a b e, true_le b a f))
+    go true e true f = same (omega (arith, leb-true a b e, leb-true b a f))
     go true e false f = less (grind (arith, e, f))
     go false e q f = more (grind (arith, e))
 
 -- ---- one comment before others
 
 pub at_keeps : (c : Comment) (cs : List Comment) (k : ℕ) → c.before ≡ k → comments_at (c ∷ cs) k ≡ c ∷ comments_at cs k
-at_keeps c cs k e = ap (λ b. cond b (c ∷ comments_at cs k) (comments_at cs k)) (eq_true c.before k e)
+at_keeps c cs k e = ap (λ b. cond b (c ∷ comments_at cs k) (comments_at cs k)) (eq-eqb c.before k e)
 
 pub at_drops_less : (c : Comment) (cs : List Comment) (k : ℕ) → c.before < k → comments_at (c ∷ cs) k ≡ comments_at cs k
 at_drops_less c cs k lt = ap (λ b. cond b (c ∷ comments_at cs k) (comments_at cs k)) (less_differs c.before k lt)
@@ -58,10 +40,10 @@ pub at_drops_more : (c : Comment) (cs : List Comment) (k : ℕ) → k < c.before
 at_drops_more c cs k lt = ap (λ b. cond b (c ∷ comments_at cs k) (comments_at cs k)) (more_differs c.before k lt)
 
 pub from_keeps : (c : Comment) (cs : List Comment) (k : ℕ) → k ≤ c.before → comments_from (c ∷ cs) k ≡ c ∷ comments_from cs k
-from_keeps c cs k le = ap (λ b. cond b (c ∷ comments_from cs k) (comments_from cs k)) (le_true k c.before le)
+from_keeps c cs k le = ap (λ b. cond b (c ∷ comments_from cs k) (comments_from cs k)) (le-leb k c.before le)
 
 pub from_drops : (c : Comment) (cs : List Comment) (k : ℕ) → c.before < k → comments_from (c ∷ cs) k ≡ comments_from cs k
-from_drops c cs k lt = ap (λ b. cond b (c ∷ comments_from cs k) (comments_from cs k)) (le_false k c.before lt)
+from_drops c cs k lt = ap (λ b. cond b (c ∷ comments_from cs k) (comments_from cs k)) (lt-leb k c.before lt)
 
 -- ---- lists in order
 
@@ -69,29 +51,29 @@ from_drops c cs k lt = ap (λ b. cond b (c ∷ comments_from cs k) (comments_fro
 pub ascending_from : (cs : List Comment) (j k : ℕ) → j ≤ k → is_ascending k cs ≡ true → is_ascending j cs ≡ true
 ascending_from [] j k le e = refl
 ascending_from (c ∷ cs) j k le e =
-    let b = both_true (nat_le k c.before) (is_ascending c.before cs) e in
-    true_both _ _ (le_true j c.before (omega (arith, le, true_le k c.before b.0))) b.1
+    let b = and_parts (nat_le k c.before) (is_ascending c.before cs) e in
+    and_from _ _ (le-leb j c.before (omega (arith, le, leb-true k c.before b.0))) b.1
 
 -- none stands before an earlier statement
 pub none_before : (cs : List Comment) (k m : ℕ) → k < m → is_ascending m cs ≡ true → comments_at cs k ≡ []
 none_before [] k m lt e = refl
 none_before (c ∷ cs) k m lt e =
-    let b = both_true (nat_le m c.before) (is_ascending c.before cs) e in
-    let after : k < c.before = omega (arith, lt, true_le m c.before b.0) in
+    let b = and_parts (nat_le m c.before) (is_ascending c.before cs) e in
+    let after : k < c.before = omega (arith, lt, leb-true m c.before b.0) in
     at_drops_more c cs k after ∙ none_before cs k c.before after b.1
 
 -- all have so many statements before them
 pub all_from : (cs : List Comment) (k m : ℕ) → k ≤ m → is_ascending m cs ≡ true → comments_from cs k ≡ cs
 all_from [] k m le e = refl
 all_from (c ∷ cs) k m le e =
-    let b = both_true (nat_le m c.before) (is_ascending c.before cs) e in
-    let after : k ≤ c.before = omega (arith, le, true_le m c.before b.0) in
+    let b = and_parts (nat_le m c.before) (is_ascending c.before cs) e in
+    let after : k ≤ c.before = omega (arith, le, leb-true m c.before b.0) in
     from_keeps c cs k after ∙ ap (λ xs. c ∷ xs) (all_from cs k c.before after b.1)
 
 -- first those before a statement, then the later ones
 pub parted : (cs : List Comment) (k m : ℕ) → is_ascending m cs ≡ true → comments_from cs k ≡ comments_at cs k ++ comments_from cs (k + 1)
 parted [] k m e = refl
-parted (c ∷ cs) k m e = let rest = (both_true (nat_le m c.before) (is_ascending c.before cs) e).1 in go rest (parted cs k c.before rest) (order c.before k)
+parted (c ∷ cs) k m e = let rest = (and_parts (nat_le m c.before) (is_ascending c.before cs) e).1 in go rest (parted cs k c.before rest) (order c.before k)
   where
     go : is_ascending c.before cs ≡ true → comments_from cs k ≡ comments_at cs k ++ comments_from cs (k + 1) → Order c.before k
         → comments_from (c ∷ cs) k ≡ comments_at (c ∷ cs) k ++ comments_from (c ∷ cs) (k + 1)
@@ -146,7 +128,7 @@ lines_ascend (l ∷ ls) begun k le = go (is_comment l) (is_initial l) le (λ n m
         → ((n m : ℕ) → m ≤ whole_before n ls → is_ascending m (comments_of n ls) ≡ true)
         → is_ascending k (cond b (comment_of here l ∷ comments_of begun ls) (comments_of (cond i (begun + 1) begun) ls)) ≡ true
     go true i le rest =
-        true_both _ _ (le_true k (comment_of here l).before (omega (arith, le, before_is here l)))
+        and_from _ _ (le-leb k (comment_of here l).before (omega (arith, le, before_is here l)))
         (subst (λ n. is_ascending n (comments_of begun ls) ≡ true) (sym (before_is here l)) (rest begun here (omega arith)))
     go false true le rest = rest (begun + 1) k (omega (arith, le, nearly_whole (begun + 1) ls))
     go false false le rest = rest begun k (omega (arith, le, nearly_whole begun ls))

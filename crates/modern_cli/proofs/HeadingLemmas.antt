@@ -1,10 +1,8 @@
 -- What is held by the names of the outputs after a conversion.
-use Rattle.std.proofs.Common.{◌≡◌, ◌≢◌, ℕ, ◌+◌, true, false, cond, List, ◌++◌, length, codes, Option, Some, None, IfSome, refl, sym, ◌∙◌, ap, subst, arith, length-append}
+use Rattle.std.proofs.Common.{◌≡◌, ◌≢◌, ℕ, ◌+◌, cond, List, ◌++◌, length, codes, Option, Some, None, IfSome, refl, sym, ◌∙◌, ap, subst, arith, length-append}
 use Rattle.std.specs.FinMap.{get, insert, get-insert}
-use Rattle.std.specs.Str.{bytes_eq}
 use Rattle.std.specs.Cmp.Lexicographic.{nat_list_cmp_total}
 use Rattle.std.proofs.lemmas.Map.Text.{is_eq-slice_cmp}
-use Rattle.std.proofs.lemmas.Slice.Eq.{bytes_eq-Decides}
 use Rattle.text_base.specs.Files.{Files}
 use Rattle.text_base.specs.Cards.{comments}
 use Rattle.tree77.specs.Tree.{SourceProgram}
@@ -21,14 +19,7 @@ use Rattle.modern_cli.proofs.Carrying.{does_the_same}
 use Rattle.modern_cli.proofs.PositionLemmas.{comments_kept}
 use Rattle.modern_cli.proofs.ProperLemmas.{written_is_proper}
 use Rattle.modern_cli.proofs.TopLemmas.{from_more}
-
--- equal texts pass the test
-is_eq_true : (a b : List ℕ) → a ≡ b → bytes_eq a b ≡ true
-is_eq_true a b e = grind (arith, bytes_eq-Decides)
-
--- other texts don't
-is_eq_false : (a b : List ℕ) → a ≢ b → bytes_eq a b ≡ false
-is_eq_false a b e = grind (arith, bytes_eq-Decides)
+use Rattle.modern_cli.proofs.Names.{bytes_same, bytes_differ}
 
 -- a name with an ending isn't the name
 longer : (out ending : List ℕ) (n : ℕ) → length ending ≡ n + 1 → out ≢ out ++ ending
@@ -40,11 +31,11 @@ other_length out a b n m short long e = let one = length-append out a in let two
 
 -- under the name that was set stand the bytes
 get_same : (files : Files) (name bytes : List ℕ) → get (insert files name bytes) name ≡ Some bytes
-get_same files name bytes = get-insert nat_list_cmp_total files name bytes name ∙ ap (λ t. cond t (Some bytes) (get files name)) (is_eq-slice_cmp name name ∙ is_eq_true name name refl)
+get_same files name bytes = get-insert nat_list_cmp_total files name bytes name ∙ ap (λ t. cond t (Some bytes) (get files name)) (is_eq-slice_cmp name name ∙ bytes_same name name refl)
 
 -- under another name stands what stood there
 get_other : (files : Files) (name bytes other : List ℕ) → other ≢ name → get (insert files name bytes) other ≡ get files other
-get_other files name bytes other differ = get-insert nat_list_cmp_total files name bytes other ∙ ap (λ t. cond t (Some bytes) (get files other)) (is_eq-slice_cmp other name ∙ is_eq_false other name differ)
+get_other files name bytes other differ = get-insert nat_list_cmp_total files name bytes other ∙ ap (λ t. cond t (Some bytes) (get files other)) (is_eq-slice_cmp other name ∙ bytes_differ other name differ)
 
 module _ (command : Command) (files : Files) (bytes : List ℕ) (p : SourceProgram) (converted : IsConvertible bytes p) where
   -- with the text, with the map too, and with the report too

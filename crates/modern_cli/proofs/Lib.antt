@@ -10,9 +10,8 @@ pub mod RefusalLemmas
 pub mod CharacterLemmas
 pub mod SizeLemmas
 pub mod PositionLemmas
-pub mod Constants
 pub mod Lists
-pub mod OperandLemmas
+pub mod ExpressionLemmas
 pub mod Seen
 pub mod ShortPieces
 pub mod ShortRemarks

@@ -5,10 +5,11 @@ use Rattle.std.specs.List.{enumerate_from}
 use Rattle.std.specs.Option.{option_map}
 use Rattle.std.specs.Str.{bytes_eq}
 use Rattle.std.proofs.lemmas.List.{append-nil}
+use Rattle.text_base.proofs.CharTests.{same_bytes}
 use Rattle.tree77.specs.Tree.{SourceUnit, SourceProgram}
 use Rattle.tree77.specs.Typing.{variables}
 use Rattle.tree77.specs.Layout.{Layout, Sequence, Entity, variables_from, sequence_of, entity_of, layout_of, numeric_count, numeric_place, entity_named}
-use Rattle.modern_cli.proofs.Names.{same_bytes, place_of}
+use Rattle.modern_cli.proofs.Names.{place_of}
 
 -- a variable of the first unit
 abbrev pub in_first : List ℕ → ℕ × List ℕ

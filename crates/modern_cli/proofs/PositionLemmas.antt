@@ -2,6 +2,7 @@
 use Rattle.std.proofs.Common.{◌≡◌, ℕ, zero, suc, ◌+◌, ◌-◌, ◌<◌, ◌≤◌, true, cond, List, [], ◌∷◌, ◌++◌, map, refl, sym, ap, ◌∙◌, subst, arith}
 use Rattle.std.specs.Prelude.{nat_le, nat_lt}
 use Rattle.std.proofs.lemmas.List.{map-append, append_assoc}
+use Rattle.std.proofs.lemmas.Bool.{and_from, and_parts, leb-true, lt-ltb, le-ltb}
 use Rattle.text_base.specs.Cards.{Comment, comments}
 use Rattle.tree77.specs.Tree as source
 use Rattle.tree77.specs.Tree.{SourceUnit, SourceProgram}
@@ -10,9 +11,9 @@ use Rattle.tree90.specs.Tree.{Remark}
 use Rattle.modern_cli.specs.Written.{remark_of, comments_at, comments_from, remarks_at, written_list, count_of, size_of, sizes_of, written}
 use Rattle.modern_cli.specs.Positions.{Position, before_header, after_header, before_entry, at_end, Placed, entries_in, position_in, position_of, source_positions, placed_at, code_positions, written_positions}
 use Rattle.modern_cli.specs.Remarks.{is_ascending}
-use Rattle.modern_cli.proofs.Names.{both_true, true_both}
 use Rattle.modern_cli.proofs.Placing.{one_unit}
-use Rattle.modern_cli.proofs.CommentLemmas.{true_le, lt_true, lt_false, Order, less, same, more, order, at_keeps, at_drops_less, at_drops_more, from_keeps, from_drops, all_from, parted, ascending_from, comments_ascend}
+use Rattle.modern_cli.proofs.CommentLemmas.{Order, less, same, more, order, at_keeps, at_drops_less, at_drops_more, from_keeps, from_drops, all_from, parted, ascending_from, comments_ascend}
+use Rattle.modern_cli.proofs.RemarkLemmas.{from-from}
 
 -- comments with the positions that a function gives for how many statements stand before them
 abbrev placed : (ℕ → Position) → List Comment → List Placed
@@ -63,24 +64,6 @@ placed_all : (p : Position) (cs : List Comment) → placed (λ i. p) cs ≡ plac
 placed_all p [] = refl
 placed_all p (c ∷ cs) = ap (λ (xs : List Placed). with_position c p ∷ xs) (placed_all p cs)
 
--- from a number on, twice
-from_twice : (cs : List Comment) (j k : ℕ) → j ≤ k → comments_from (comments_from cs j) k ≡ comments_from cs k
-from_twice [] j k le = refl
-from_twice (c ∷ cs) j k le = go (from_twice cs j k le) (order c.before j)
-  where
-    inner : comments_from (comments_from cs j) k ≡ comments_from cs k → Order c.before k → comments_from (c ∷ comments_from cs j) k ≡ comments_from (c ∷ cs) k
-    inner twice (less lt) = from_drops c (comments_from cs j) k lt ∙ twice ∙ sym (from_drops c cs k lt)
-    inner twice (same e) = from_keeps c (comments_from cs j) k (omega (arith, e)) ∙ ap (λ xs. c ∷ xs) twice ∙ sym (from_keeps c cs k (omega (arith, e)))
-    inner twice (more lt) = from_keeps c (comments_from cs j) k (omega (arith, lt)) ∙ ap (λ xs. c ∷ xs) twice ∙ sym (from_keeps c cs k (omega (arith, lt)))
-
-    kept : comments_from (comments_from cs j) k ≡ comments_from cs k → j ≤ c.before → comments_from (comments_from (c ∷ cs) j) k ≡ comments_from (c ∷ cs) k
-    kept twice at = ap (λ ds. comments_from ds k) (from_keeps c cs j at) ∙ inner twice (order c.before k)
-
-    go : comments_from (comments_from cs j) k ≡ comments_from cs k → Order c.before j → comments_from (comments_from (c ∷ cs) j) k ≡ comments_from (c ∷ cs) k
-    go twice (less lt) = ap (λ ds. comments_from ds k) (from_drops c cs j lt) ∙ twice ∙ sym (from_drops c cs k (omega (arith, lt, le)))
-    go twice (same e) = kept twice (omega (arith, e))
-    go twice (more lt) = kept twice (omega (arith, lt))
-
 -- a lower bound that is passed already
 from_fewer : (cs : List Comment) (j k : ℕ) → j ≤ k → comments_from (comments_from cs k) j ≡ comments_from cs k
 from_fewer [] j k le = refl
@@ -102,13 +85,13 @@ from_fewer (c ∷ cs) j k le = go (from_fewer cs j k le) (order c.before k)
 from_ascends : (cs : List Comment) (j m : ℕ) → is_ascending m cs ≡ true → is_ascending m (comments_from cs j) ≡ true
 from_ascends [] j m e = refl
 from_ascends (c ∷ cs) j m e =
-    let both = both_true (nat_le m c.before) (is_ascending c.before cs) e in go both.0 (from_ascends cs j c.before both.1) (order c.before j)
+    let both = and_parts (nat_le m c.before) (is_ascending c.before cs) e in go both.0 (from_ascends cs j c.before both.1) (order c.before j)
   where
     kept : nat_le m c.before ≡ true → is_ascending c.before (comments_from cs j) ≡ true → j ≤ c.before → is_ascending m (comments_from (c ∷ cs) j) ≡ true
-    kept at rest le = subst (λ ds. is_ascending m ds ≡ true) (sym (from_keeps c cs j le)) (true_both _ _ at rest)
+    kept at rest le = subst (λ ds. is_ascending m ds ≡ true) (sym (from_keeps c cs j le)) (and_from _ _ at rest)
 
     go : nat_le m c.before ≡ true → is_ascending c.before (comments_from cs j) ≡ true → Order c.before j → is_ascending m (comments_from (c ∷ cs) j) ≡ true
-    go at rest (less lt) = subst (λ ds. is_ascending m ds ≡ true) (sym (from_drops c cs j lt)) (ascending_from (comments_from cs j) m c.before (true_le m c.before at) rest)
+    go at rest (less lt) = subst (λ ds. is_ascending m ds ≡ true) (sym (from_drops c cs j lt)) (ascending_from (comments_from cs j) m c.before (leb-true m c.before at) rest)
     go at rest (same is) = kept at rest (omega (arith, is))
     go at rest (more lt) = kept at rest (omega (arith, lt))
 
@@ -182,13 +165,13 @@ module _ (u : SourceUnit) where
   entry_of k = cond (nat_lt k (size_of u)) (before_entry 0 (entries_in u.code (k - 1))) at_end
 
   place_within : (k : ℕ) → k < size_of u → place_of k ≡ position_in 0 u k
-  place_within k lt = ap (λ b. cond b (position_in 0 u k) at_end) (lt_true k (size_of u) lt)
+  place_within k lt = ap (λ b. cond b (position_in 0 u k) at_end) (lt-ltb k (size_of u) lt)
 
   place_after : (k : ℕ) → size_of u ≤ k → place_of k ≡ at_end
-  place_after k le = ap (λ b. cond b (position_in 0 u k) at_end) (lt_false k (size_of u) le)
+  place_after k le = ap (λ b. cond b (position_in 0 u k) at_end) (le-ltb k (size_of u) le)
 
   entry_after : (k : ℕ) → size_of u ≤ k → entry_of k ≡ at_end
-  entry_after k le = ap (λ b. cond b (before_entry 0 (entries_in u.code (k - 1))) at_end) (lt_false k (size_of u) le)
+  entry_after k le = ap (λ b. cond b (before_entry 0 (entries_in u.code (k - 1))) at_end) (le-ltb k (size_of u) le)
 
   -- from the second statement after the header on they are the same
   places_are_entries : (k : ℕ) → 2 ≤ k → place_of k ≡ entry_of k
@@ -202,7 +185,7 @@ module _ (u : SourceUnit) where
   are_entries i le =
       let n : 1 + i - 1 ≡ i = omega arith in
       let z : entries_in u.code i ≡ 0 + entries_in u.code i = omega arith in
-      ap (λ b. cond b (before_entry 0 (entries_in u.code (1 + i - 1))) at_end) (lt_true (1 + i) (size_of u) (omega (arith, le)))
+      ap (λ b. cond b (before_entry 0 (entries_in u.code (1 + i - 1))) at_end) (lt-ltb (1 + i) (size_of u) (omega (arith, le)))
       ∙ ap (λ j. before_entry 0 (entries_in u.code j)) n ∙ ap (before_entry 0) z
 
   module _ (cs : List Comment) (ascends : is_ascending 0 cs ≡ true) where
@@ -218,7 +201,7 @@ module _ (u : SourceUnit) where
         ap (λ j. placed_at at_end (map remark_of (comments_from cs j))) size_is
         ∙ sym (placed_all at_end (comments_from cs (size_of u)))
         ∙ sym (placed_alike entry_of (λ i. at_end) (size_of u) entry_after cs)
-        ∙ ap (placed entry_of) (sym (ap (comments_from (comments_from cs 2)) end_is ∙ from_twice cs 2 (size_of u) (omega arith))) in
+        ∙ ap (placed entry_of) (sym (ap (comments_from (comments_from cs 2)) end_is ∙ from-from cs 2 (size_of u) (omega arith))) in
         ap (λ xs. code_positions 0 0 L.0 L.1 ++ xs) later
         ∙ list_positions 0 entry_of (comments_from cs 2) (from_ascends cs 2 0 ascends) u.code 1 0 [] are_entries
         ∙ ap (placed entry_of) (from_fewer cs 1 2 (omega arith))
@@ -227,7 +210,7 @@ module _ (u : SourceUnit) where
     unit_comments : placed place_of cs ≡ written_positions (written cs (one_unit u))
     unit_comments =
         let L = written_list (comments_from cs 2) 1 [] u.code in
-        let one_is : (nat_lt 1 (size_of u)) ≡ true = lt_true 1 (size_of u) (omega arith) in
+        let one_is : (nat_lt 1 (size_of u)) ≡ true = lt-ltb 1 (size_of u) (omega arith) in
         let head : placed place_of (comments_at cs 0) ≡ placed_at (before_header 0) (remarks_at cs 0) = placed_there place_of (before_header 0) 0 (place_within 0 (omega arith)) cs in
         let inner : placed place_of (comments_at cs 1) ≡ placed_at (after_header 0) (remarks_at cs 1) = placed_there place_of (after_header 0) 1 (place_within 1 (omega arith)) cs in
         let H = placed_at (before_header 0) (remarks_at cs 0) in

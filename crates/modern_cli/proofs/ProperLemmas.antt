@@ -4,6 +4,7 @@ use Rattle.std.specs.List.{list_all}
 use Rattle.std.specs.Str.{bytes_eq}
 use Rattle.std.proofs.lemmas.List.{append-nil}
 use Rattle.std.proofs.lemmas.List.Folds.{list_all-map}
+use Rattle.std.proofs.lemmas.Bool.{and_from, and_parts}
 use Rattle.text_base.specs.Lines.{cut}
 use Rattle.text_base.specs.Cards.{Comment, cards, comments}
 use Rattle.text_base.specs.Chars.{is_name}
@@ -17,7 +18,7 @@ use Rattle.tree90.specs.Proper as p
 use Rattle.tree90.specs.Proper.{declared_name, is_among, are_distinct, IsWritableUnit, IsWritable, IsProper}
 use Rattle.modern_cli.specs.Written.{remark_of, comments_from, remarks_at, written_list, written_unit, sizes_of, written}
 use Rattle.modern_cli.specs.WrittenProper.{WrittenIsProper}
-use Rattle.modern_cli.proofs.Names.{both_true, true_both, distinct_first_seen}
+use Rattle.modern_cli.proofs.Names.{distinct_first_seen}
 use Rattle.modern_cli.proofs.RefusalLemmas.{accepted}
 use Rattle.modern_cli.proofs.Seen.{all_implied, all_first, apart_from_all, are_distinct_names, all_are_seen}
 use Rattle.modern_cli.proofs.ShortPieces.{is_short, short_nothing, short_append}
@@ -49,13 +50,13 @@ declared_names (x ∷ xs) = ap (λ ys. x ∷ ys) (declared_names xs)
 name_is_apart : (u : SourceUnit) → is_typed u ≡ true → not (is_among (variables u) u.name) ≡ true
 name_is_apart u typed =
     apart_from_all u.name (variables u) (all_first (λ y. not (bytes_eq u.name y)) (source.code_names u.code)
-    (all_implied (is_variable u.name) (λ y. not (bytes_eq u.name y)) (λ y e. (both_true (is_integer_name y) (not (bytes_eq u.name y)) e).1) (source.code_names u.code) typed))
+    (all_implied (is_variable u.name) (λ y. not (bytes_eq u.name y)) (λ y e. (and_parts (is_integer_name y) (not (bytes_eq u.name y)) e).1) (source.code_names u.code) typed))
 
 -- a unit's name and its variables are distinct
 names_are_distinct : (u : SourceUnit) → is_typed u ≡ true → are_distinct (u.name ∷ map declared_name (map integer_object (variables u))) ≡ true
 names_are_distinct u typed =
     ap (λ xs. are_distinct (u.name ∷ xs)) (declared_names (variables u))
-    ∙ true_both (not (is_among (variables u) u.name)) (are_distinct (variables u)) (name_is_apart u typed)
+    ∙ and_from (not (is_among (variables u) u.name)) (are_distinct (variables u)) (name_is_apart u typed)
     (are_distinct_names (variables u) (distinct_first_seen (source.code_names u.code)))
 
 -- each name of what is written for a unit is declared

@@ -5,6 +5,7 @@ use Rattle.std.specs.List.{list_all}
 use Rattle.std.specs.Option.{option_and_then}
 use Rattle.std.proofs.lemmas.List.{append-nil}
 use Rattle.std.proofs.lemmas.List.Folds.{list_all-append}
+use Rattle.std.proofs.lemmas.Bool.{and_from, and_parts}
 use Rattle.text_base.specs.Lines.{lines}
 use Rattle.text_base.specs.Cards.{Card, cards}
 use Rattle.text_base.specs.LineRefusals.{too_large, passes_sum, line_refusals, card_refusals, files_refusals}
@@ -14,7 +15,6 @@ use Rattle.tree77.specs.Spelling.{Statement, program, action, continue, end}
 use Rattle.tree77.specs.Typing.{action_names, code_names, is_variable, is_typed}
 use Rattle.tree77.specs.Reading.{read_card, Items, join_items, read_items, unit_with, read_unit}
 use Rattle.modern_cli.specs.Refusals.{header_name, program_name, is_short, is_built_as, is_built, not_built_at, statement_refusals, unit_refusals, first_of, refusals}
-use Rattle.modern_cli.proofs.Names.{both_true, true_both}
 
 -- ---- phases
 
@@ -74,7 +74,7 @@ all_built unit (card ∷ cs) e = go (is_built unit card) refl e (λ f. all_built
         → map not_built_at (cond (not b) (card ∷ filter (λ c. not (is_built unit c)) cs) (filter (λ c. not (is_built unit c)) cs)) ≡ []
         → (map not_built_at (filter (λ c. not (is_built unit c)) cs) ≡ [] → list_all (is_built unit) cs ≡ true)
         → list_all (is_built unit) (card ∷ cs) ≡ true
-    go true is e more = true_both (is_built unit card) (list_all (is_built unit) cs) is (more e)
+    go true is e more = and_from (is_built unit card) (list_all (is_built unit) cs) is (more e)
     go false is e more = absurd cc
 
 -- ---- the program
@@ -89,8 +89,8 @@ typed_join : (unit : List ℕ) (card : Card) (s : Statement) (rest : List Card) 
 typed_join unit card (program x) rest more built typed = tt
 typed_join unit card (action a) rest None built typed = tt
 typed_join unit card (action a) rest (Some r) built typed =
-    let b = both_true (list_all (is_variable unit) (action_names a)) (is_short a) built in
-    list_all-append (is_variable unit) (action_names a) (code_names r.0) ∙ true_both _ _ b.0 typed
+    let b = and_parts (list_all (is_variable unit) (action_names a)) (is_short a) built in
+    list_all-append (is_variable unit) (action_names a) (code_names r.0) ∙ and_from _ _ b.0 typed
 typed_join unit card continue rest None built typed = tt
 typed_join unit card continue rest (Some r) built typed = typed
 typed_join unit card end [] more built typed = refl
@@ -99,7 +99,7 @@ typed_join unit card end (next ∷ rest) more built typed = tt
 list_is_typed : (unit : List ℕ) (cs : List Card) → list_all (is_built (Some unit)) cs ≡ true → IsTypedList unit (read_items cs)
 list_is_typed unit [] built = tt
 list_is_typed unit (card ∷ rest) built =
-    let b = both_true (is_built (Some unit) card) (list_all (is_built (Some unit)) rest) built in
+    let b = and_parts (is_built (Some unit) card) (list_all (is_built (Some unit)) rest) built in
     go (read_card card) b.0 (list_is_typed unit rest b.1)
   where
     go : (o : Option Statement) → is_built_as (Some unit) o ≡ true → IsTypedList unit (read_items rest) → IsTypedList unit (option_and_then (λ s. join_items card s rest (read_items rest)) o)
@@ -124,5 +124,5 @@ pub unit_is_typed : (cs : List Card) (u : SourceUnit) → statement_refusals cs 
 unit_is_typed [] u built e = absurd cc
 unit_is_typed (card ∷ rest) u built e =
     let all = all_built (program_name (card ∷ rest)) (card ∷ rest) built in
-    let b = both_true (is_built (program_name (card ∷ rest)) card) (list_all (is_built (program_name (card ∷ rest))) rest) all in
+    let b = and_parts (is_built (program_name (card ∷ rest)) card) (list_all (is_built (program_name (card ∷ rest))) rest) all in
     subst (λ o. IfSome o (λ v. is_typed v ≡ true)) e (typed_unit_with card rest (read_card card) b.1)

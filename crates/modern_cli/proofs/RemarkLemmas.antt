@@ -1,6 +1,6 @@
 -- The comments before a statement, and those from a statement on.
 use Rattle.std.proofs.Common.{◌≡◌, ℕ, ◌+◌, ◌≤◌, ◌<◌, Bool, true, false, cond, nat_le, ◌==◌, List, [], ◌∷◌, ◌++◌, length, filter, take, drop, refl, sym, ap, ◌∙◌, arith, length-append}
-use Rattle.std.proofs.lemmas.Bool.{and_parts, and_from}
+use Rattle.std.proofs.lemmas.Bool.{and_parts, and_from, leb-true}
 use Rattle.std.proofs.lemmas.Bool.Decides.{nat_tests}
 use Rattle.std.proofs.Math.Seq.{take-append_seam, drop-append_seam}
 use Rattle.text_base.specs.Cards.{Comment}
@@ -57,10 +57,6 @@ at_least_same j k n le test = grind (arith, nat_tests)
 not_same : (j k n : ℕ) → k < j → nat_le j n ≡ true → (n == k) ≡ false
 not_same j k n lt test = grind (arith, nat_tests)
 
--- a test for an order as the order
-ordered : (j n : ℕ) → nat_le j n ≡ true → j ≤ n
-ordered j n test = grind (arith, nat_tests)
-
 -- the comments before a statement are among those from an earlier one on
 pub at-from : (cs : List Comment) (j k : ℕ) → j ≤ k → comments_at (comments_from cs j) k ≡ comments_at cs k
 at-from cs j k le = filter-filter (λ c. nat_le j c.before) (λ c. c.before == k) (λ c test. at_least_same j k c.before le test) cs
@@ -78,7 +74,7 @@ pub from_all : (cs : List Comment) (j k : ℕ) → is_ascending j cs ≡ true �
 from_all [] j k order le = refl
 from_all (c ∷ cs) j k order le =
     let parts = and_parts (nat_le j c.before) (is_ascending c.before cs) order in
-    let more : k ≤ c.before = omega (arith, ordered j c.before parts.0) in
+    let more : k ≤ c.before = omega (arith, leb-true j c.before parts.0) in
     kept (nat_le k c.before) c (comments_from cs k) (at_least k j c.before le parts.0)
     ∙ ap (λ l. c ∷ l) (from_all cs c.before k parts.1 more)
 
@@ -87,7 +83,7 @@ at_none : (cs : List Comment) (j k : ℕ) → is_ascending j cs ≡ true → k <
 at_none [] j k order lt = refl
 at_none (c ∷ cs) j k order lt =
     let parts = and_parts (nat_le j c.before) (is_ascending c.before cs) order in
-    let more : k < c.before = omega (arith, ordered j c.before parts.0) in
+    let more : k < c.before = omega (arith, leb-true j c.before parts.0) in
     refused (c.before == k) c (comments_at cs k) (not_same j k c.before lt parts.0)
     ∙ at_none cs c.before k parts.1 more
 
@@ -117,7 +113,7 @@ cut_more true c cs k same order others =
 cut_more false c cs k other order others =
     let parts = and_parts (nat_le k c.before) (is_ascending c.before cs) order in
     let test = greater k c.before parts.0 other in
-    let more : k < c.before = omega (arith, ordered (k + 1) c.before test) in
+    let more : k < c.before = omega (arith, leb-true (k + 1) c.before test) in
     let here = refused (c.before == k) c (comments_at cs k) other ∙ at_none cs c.before k parts.1 more in
     let rest = and_from (nat_le (k + 1) c.before) (is_ascending c.before cs) test parts.1 in
     let le : k + 1 ≤ k + 1 = omega arith in
@@ -150,7 +146,7 @@ length-at cs k order =
 pub after_none : (c : Comment) (cs : List Comment) (k : ℕ) → is_ascending k (c ∷ cs) ≡ true → (c.before == k) ≡ false → comments_at (c ∷ cs) k ≡ []
 after_none c cs k order other =
     let parts = and_parts (nat_le k c.before) (is_ascending c.before cs) order in
-    let more : k < c.before = omega (arith, ordered (k + 1) c.before (greater k c.before parts.0 other)) in
+    let more : k < c.before = omega (arith, leb-true (k + 1) c.before (greater k c.before parts.0 other)) in
     refused (c.before == k) c (comments_at cs k) other ∙ at_none cs c.before k parts.1 more
 
 -- one more comment in order
@@ -159,7 +155,7 @@ ascending-from_more : (b : Bool) (c : Comment) (cs : List Comment) (m : ℕ) →
     → is_ascending m (cond b (c ∷ comments_from cs m) (comments_from cs m)) ≡ true
 ascending-from_more true c cs m test order others =
     and_from (nat_le m c.before) (is_ascending c.before (comments_from cs m)) test
-    (ap (λ l. is_ascending c.before l) (from_all cs c.before m order (ordered m c.before test)) ∙ order)
+    (ap (λ l. is_ascending c.before l) (from_all cs c.before m order (leb-true m c.before test)) ∙ order)
 ascending-from_more false c cs m test order others = others
 
 -- the comments from a statement on stay in order

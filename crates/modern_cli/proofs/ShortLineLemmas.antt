@@ -2,7 +2,7 @@
 use Rattle.std.proofs.Common.{◌≡◌, ℕ, ◌+◌, ◌≤◌, true, List, [], ◌∷◌, ◌++◌, length, map, codes, Option, refl, ◌∙◌, subst, arith, length-append}
 use Rattle.std.specs.Prelude.{replicate, flat_map}
 use Rattle.std.specs.List.{list_all}
-use Rattle.std.proofs.lemmas.Bool.{leb-true}
+use Rattle.std.proofs.lemmas.Bool.{leb-true, and_from, and_parts}
 use Rattle.std.proofs.lemmas.List.Folds.{list_all-append}
 use Rattle.text_base.specs.Cards.{Card, Comment}
 use Rattle.text_base.specs.Chars.{is_name}
@@ -20,7 +20,6 @@ use Rattle.tree90.specs.Printed.{action_text, stmt_text, declared_text, code_tex
 use Rattle.tree90.specs.Proper.{IsWritableCode}
 use Rattle.modern_cli.specs.Refusals.{program_name, is_free_name, is_short, is_built_as, is_built, statement_refusals}
 use Rattle.modern_cli.specs.Written.{comments_from, remarks_at, written_list, written_unit}
-use Rattle.modern_cli.proofs.Names.{both_true, true_both}
 use Rattle.modern_cli.proofs.RefusalLemmas.{all_built}
 use Rattle.modern_cli.proofs.Seen.{all_first}
 use Rattle.modern_cli.proofs.ShortPieces.{has_no_feed, no_feed_append, no_feed_name, name_is_short, IsShortLines, short_nothing, short_append, short_indented}
@@ -57,18 +56,18 @@ action_and_more remarks a more short fits one rest = record {
 -- a statement that can be converted is short
 built_is_short : (unit : Option (List ℕ)) (card : Card) (a : Action) → is_built unit card ≡ true → SpellsCard card (action a) → is_short a ≡ true
 built_is_short unit card a built spelled =
-    (both_true (list_all (is_free_name unit) (action_names a)) (is_short a) (subst (λ o. is_built_as unit o ≡ true) (card_read card (action a) spelled) built)).1
+    (and_parts (list_all (is_free_name unit) (action_names a)) (is_short a) (subst (λ o. is_built_as unit o ≡ true) (card_read card (action a) spelled) built)).1
 
 -- what is written for the statements that cards spell is short where they can be converted
 code_is_short : (unit : Option (List ℕ)) (cards : List Card) (code : Code) (last : Place) → list_all (is_built unit) cards ≡ true → SpellsItems cards code last → IsShortCode code
 code_is_short unit [] code last built s = absurd s
 code_is_short unit (card ∷ rest) done last built s = λ cs k left short e. record { printed_short = short_nothing; writable = tt; tail = left_and_here cs k left short e }
 code_is_short unit (card ∷ rest) (item label here (simple a) more) last built s = λ cs k left short e.
-    let b = both_true (is_built unit card) (list_all (is_built unit) rest) built in
+    let b = and_parts (is_built unit card) (list_all (is_built unit) rest) built in
     action_and_more (left ++ remarks_at cs k) a (written_list cs (k + 1) [] more) (left_and_here cs k left short e)
     (built_is_short unit card a b.0 s.0) (action_is_plain _ a s.0.1) (code_is_short unit rest more last b.1 s.3 cs (k + 1) [] short refl)
 code_is_short unit (card ∷ rest) (item label here continue more) last built s = λ cs k left short e.
-    let b = both_true (is_built unit card) (list_all (is_built unit) rest) built in
+    let b = and_parts (is_built unit card) (list_all (is_built unit) rest) built in
     code_is_short unit rest more last b.1 s.3 cs (k + 1) (left ++ remarks_at cs k) short (left_and_here cs k left short e)
 
 -- the statements that cards spell refer to names alone
@@ -76,7 +75,7 @@ code_is_named : (cards : List Card) (code : Code) (last : Place) → SpellsItems
 code_is_named [] code last s = absurd s
 code_is_named (card ∷ rest) done last s = refl
 code_is_named (card ∷ rest) (item label here (simple a) more) last s =
-    list_all-append is_name (action_names a) (code_names more) ∙ true_both _ _ (action_is_plain _ a s.0.1).named (code_is_named rest more last s.3)
+    list_all-append is_name (action_names a) (code_names more) ∙ and_from _ _ (action_is_plain _ a s.0.1).named (code_is_named rest more last s.3)
 code_is_named (card ∷ rest) (item label here continue more) last s = code_is_named rest more last s.3
 
 -- ---- declarations
@@ -90,7 +89,7 @@ word_and_name n word x none few named =
 declarations_are_short : (xs : List (List ℕ)) → list_all is_name xs ≡ true → IsShortLines (flat_map declared_text (map integer_object xs))
 declarations_are_short [] e = short_nothing
 declarations_are_short (x ∷ xs) e =
-    let b = both_true (is_name x) (list_all is_name xs) e in
+    let b = and_parts (is_name x) (list_all is_name xs) e in
     short_append (word_and_name 2 (codes "INTEGER :: ") x refl (omega arith) b.0) (declarations_are_short xs b.1)
 
 -- ---- units
@@ -122,7 +121,7 @@ cards_are_unit unit [] u built s = absurd s
 cards_are_unit unit (card ∷ rest) u built s = record {
   named = header_is_named _ u.name s.0.1;
   names = code_is_named rest u.code u.end s.2;
-  listed = code_is_short unit rest u.code u.end (both_true (is_built unit card) (list_all (is_built unit) rest) built).1 s.2;
+  listed = code_is_short unit rest u.code u.end (and_parts (is_built unit card) (list_all (is_built unit) rest) built).1 s.2;
 }
 
 -- so is the unit that cards spell of which none is refused

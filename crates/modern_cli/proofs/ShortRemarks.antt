@@ -3,7 +3,7 @@ use Rattle.std.proofs.Common.{◌≡◌, ℕ, ◌+◌, ◌-◌, ◌==◌, Bool, 
 use Rattle.std.specs.Prelude.{nat_le, nat_lt, decimal, slice_index, if◌then◌else◌}
 use Rattle.std.specs.List.{list_all}
 use Rattle.std.specs.Option.{option_or}
-use Rattle.std.proofs.lemmas.Bool.{leb-true}
+use Rattle.std.proofs.lemmas.Bool.{leb-true, and_from, and_parts}
 use Rattle.std.proofs.lemmas.List.Folds.{list_all-map, list_all-append}
 use Rattle.text_base.specs.Lines.{with_first, cut, without_return, lines, is_blank, is_marked, is_comment, is_initial}
 use Rattle.text_base.specs.Cards.{Comment, comment_of, whole_before, comments_of, comments}
@@ -13,7 +13,7 @@ use Rattle.tree90.specs.Tree.{Remark}
 use Rattle.tree90.specs.Printed.{remark_text, remarks_text}
 use Rattle.tree90.specs.Proper.{is_writable_remark, are_writable_remarks}
 use Rattle.modern_cli.specs.Written.{remark_of, comments_at, comments_from, remarks_at}
-use Rattle.modern_cli.proofs.Names.{both_true, true_both, all_filtered}
+use Rattle.modern_cli.proofs.Names.{all_filtered}
 use Rattle.modern_cli.proofs.Seen.{all_implied, all_taken}
 use Rattle.modern_cli.proofs.RefusalLemmas.{lines_accepted}
 use Rattle.modern_cli.proofs.ShortPieces.{is_short, has_no_feed, IsShortLines, short_nothing, short_append, short_line}
@@ -30,17 +30,17 @@ are_short_remarks = list_all is_short_remark
 
 -- short comments can be written
 pub are_writable : (rs : List Remark) → are_short_remarks rs ≡ true → are_writable_remarks rs ≡ true
-are_writable rs e = all_implied is_short_remark is_writable_remark (λ r h. (both_true (is_short (if r.marked then 33 ∷ r.text else r.text)) (is_writable_remark r) h).1) rs e
+are_writable rs e = all_implied is_short_remark is_writable_remark (λ r h. (and_parts (is_short (if r.marked then 33 ∷ r.text else r.text)) (is_writable_remark r) h).1) rs e
 
 -- comments after comments
 pub remarks_append : (rs qs : List Remark) → are_short_remarks rs ≡ true → are_short_remarks qs ≡ true → are_short_remarks (rs ++ qs) ≡ true
-remarks_append rs qs e f = list_all-append is_short_remark rs qs ∙ true_both (are_short_remarks rs) (are_short_remarks qs) e f
+remarks_append rs qs e f = list_all-append is_short_remark rs qs ∙ and_from (are_short_remarks rs) (are_short_remarks qs) e f
 
 -- a short comment is one short line
 remark_is_short : (r : Remark) → is_short_remark r ≡ true → IsShortLines (remark_text r)
 remark_is_short r e =
-    let b = both_true (is_short (if r.marked then 33 ∷ r.text else r.text)) (is_writable_remark r) e in
-    go r.marked b.0 (both_true (has_no_feed r.text) (if r.marked then true else is_blank r.text) b.1).0
+    let b = and_parts (is_short (if r.marked then 33 ∷ r.text else r.text)) (is_writable_remark r) e in
+    go r.marked b.0 (and_parts (has_no_feed r.text) (if r.marked then true else is_blank r.text) b.1).0
   where
     go : (marked : Bool) → is_short (if marked then 33 ∷ r.text else r.text) ≡ true → has_no_feed r.text ≡ true → IsShortLines ((if marked then 33 ∷ r.text else r.text) ++ 10 ∷ [])
     go true few none = short_line (33 ∷ r.text) none (leb-true _ _ few)
@@ -50,7 +50,7 @@ remark_is_short r e =
 pub remarks_are_short : (rs : List Remark) → are_short_remarks rs ≡ true → IsShortLines (remarks_text rs)
 remarks_are_short [] e = short_nothing
 remarks_are_short (r ∷ rs) e =
-    let b = both_true (is_short_remark r) (are_short_remarks rs) e in
+    let b = and_parts (is_short_remark r) (are_short_remarks rs) e in
     short_append (remark_is_short r b.0) (remarks_are_short rs b.1)
 
 -- ---- comments of a file
@@ -79,10 +79,10 @@ comments_from_are_short cs k e = all_filtered (λ (c : Comment). nat_le k c.befo
 
 -- a byte that is no LF before the first of some lines
 first_has_no_feed : (c : ℕ) (ls : List (List ℕ)) → not (c == 10) ≡ true → list_all has_no_feed ls ≡ true → list_all has_no_feed (with_first c ls) ≡ true
-first_has_no_feed c [] e f = true_both (not (c == 10) && true) true (true_both (not (c == 10)) true e refl) refl
+first_has_no_feed c [] e f = and_from (not (c == 10) && true) true (and_from (not (c == 10)) true e refl) refl
 first_has_no_feed c (l ∷ ls) e f =
-    let b = both_true (has_no_feed l) (list_all has_no_feed ls) f in
-    true_both (not (c == 10) && has_no_feed l) (list_all has_no_feed ls) (true_both (not (c == 10)) (has_no_feed l) e b.0) b.1
+    let b = and_parts (has_no_feed l) (list_all has_no_feed ls) f in
+    and_from (not (c == 10) && has_no_feed l) (list_all has_no_feed ls) (and_from (not (c == 10)) (has_no_feed l) e b.0) b.1
 
 -- lines that were cut have no LF
 cut_has_no_feed : (bytes : List ℕ) → list_all has_no_feed (cut bytes) ≡ true
@@ -111,7 +111,7 @@ lines_have_no_feed bytes =
 marked_is_short : (before : ℕ) (l : List ℕ) → is_short l ≡ true → has_no_feed l ≡ true → is_short_comment (record { marked = true; text = drop 1 l; before = before }) ≡ true
 marked_is_short before [] few none = refl
 marked_is_short before (c ∷ l) few none =
-    true_both (is_short (33 ∷ l)) (has_no_feed l && true) few (true_both (has_no_feed l) true (both_true (not (c == 10)) (has_no_feed l) none).1 refl)
+    and_from (is_short (33 ∷ l)) (has_no_feed l && true) few (and_from (has_no_feed l) true (and_parts (not (c == 10)) (has_no_feed l) none).1 refl)
 
 -- the comment of a line
 comment_is_short : (before : ℕ) (l : List ℕ) → is_short l ≡ true → has_no_feed l ≡ true → is_short_comment (comment_of before l) ≡ true
@@ -121,19 +121,19 @@ comment_is_short before l few none = go (is_marked l) (is_blank l) refl
         → is_short_comment (if marked || not blank then record { marked = true; text = drop 1 l; before = before } else record { marked = false; text = l; before = before }) ≡ true
     go true blank is = marked_is_short before l few none
     go false false is = marked_is_short before l few none
-    go false true is = true_both (is_short l) (has_no_feed l && is_blank l) few (true_both (has_no_feed l) (is_blank l) none is)
+    go false true is = and_from (is_short l) (has_no_feed l && is_blank l) few (and_from (has_no_feed l) (is_blank l) none is)
 
 -- the comments of short lines are short
 comments_of_are_short : (begun : ℕ) (ls : List (List ℕ)) → list_all is_short ls ≡ true → list_all has_no_feed ls ≡ true → are_short_comments (comments_of begun ls) ≡ true
 comments_of_are_short begun [] few none = refl
 comments_of_are_short begun (l ∷ ls) few none =
-    let f = both_true (is_short l) (list_all is_short ls) few in
-    let n = both_true (has_no_feed l) (list_all has_no_feed ls) none in
+    let f = and_parts (is_short l) (list_all is_short ls) few in
+    let n = and_parts (has_no_feed l) (list_all has_no_feed ls) none in
     go (is_comment l) (is_initial l) (comment_is_short (whole_before begun ls) l f.0 n.0) (λ m. comments_of_are_short m ls f.1 n.1)
   where
     go : (comment initial : Bool) → is_short_comment (comment_of (whole_before begun ls) l) ≡ true → ((m : ℕ) → are_short_comments (comments_of m ls) ≡ true)
         → are_short_comments (if comment then comment_of (whole_before begun ls) l ∷ comments_of begun ls else comments_of (if initial then begun + 1 else begun) ls) ≡ true
-    go true initial here rest = true_both (is_short_comment (comment_of (whole_before begun ls) l)) (are_short_comments (comments_of begun ls)) here (rest begun)
+    go true initial here rest = and_from (is_short_comment (comment_of (whole_before begun ls) l)) (are_short_comments (comments_of begun ls)) here (rest begun)
     go false true here rest = rest (begun + 1)
     go false false here rest = rest begun
 
@@ -168,7 +168,7 @@ lines_are_short number b (l ∷ ls) e = go (line_fault b l) refl e (λ f. lines_
   where
     go : (fault : Option Fault) → line_fault b l ≡ fault → refused_at 0 number fault ++ line_refusals 0 (number + 1) (begun_after b l) ls ≡ []
         → (line_refusals 0 (number + 1) (begun_after b l) ls ≡ [] → list_all is_short ls ≡ true) → list_all is_short (l ∷ ls) ≡ true
-    go None is e rest = true_both (is_short l) (list_all is_short ls) (line_is_short b l is) (rest e)
+    go None is e rest = and_from (is_short l) (list_all is_short ls) (line_is_short b l is) (rest e)
     go (Some fault) is e rest = absurd cc
 
 -- the comments of a file whose lines are accepted are short

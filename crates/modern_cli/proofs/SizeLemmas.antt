@@ -1,12 +1,13 @@
 -- A source has no more statements than bytes.
-use Rattle.std.proofs.Common.{◌≡◌, ℕ, suc, ◌+◌, ◌≤◌, ◌==◌, Bool, true, false, not, cond, List, [], ◌∷◌, length, sym, ap, subst, arith}
+use Rattle.std.proofs.Common.{◌≡◌, ℕ, suc, ◌+◌, ◌≤◌, Bool, true, false, not, cond, List, [], ◌∷◌, length, sym, ap, subst, arith}
 use Rattle.std.specs.List.{enumerate_from, take_while}
 use Rattle.std.proofs.lemmas.List.{length-map}
 use Rattle.std.proofs.lemmas.List.FromFn.{length-enumerate_from}
 use Rattle.std.proofs.lemmas.List.Sums.{length-filter, count_by-le-length}
-use Rattle.text_base.specs.Lines.{with_first, cut, without_return, lines, is_comment, is_initial}
+use Rattle.text_base.specs.Lines.{cut, without_return, lines, is_comment, is_initial}
 use Rattle.text_base.specs.Cards.{Card, statement_lines, grouped, card_of, cards_of, cards}
 use Rattle.text_base.specs.declared.refusal.Place.{Place}
+use Rattle.text_base.proofs.CardSizes.{cut_length}
 use Rattle.tree77.specs.Tree.{simple, continue, Code, done, item, SourceUnit, SourceProgram}
 use Rattle.tree77.specs.Source.{SpellsItems, SpellsUnit, IsSource}
 use Rattle.modern_cli.specs.Written.{count_of, size_of, sizes_of}
@@ -22,19 +23,6 @@ list_count (card ∷ rest) (item label here continue more) last s = omega (arith
 unit_size : (cs : List Card) (u : SourceUnit) → SpellsUnit cs u → size_of u ≡ length cs
 unit_size [] u s = absurd s
 unit_size (card ∷ rest) u s = omega (arith, list_count rest u.code u.end s.2)
-
-first_length : (c : ℕ) (ls : List (List ℕ)) → length (with_first c ls) ≤ suc (length ls)
-first_length c [] = omega arith
-first_length c (l ∷ ls) = omega arith
-
--- each line has a byte of its own
-cut_length : (bytes : List ℕ) → length (cut bytes) ≤ length bytes
-cut_length [] = omega arith
-cut_length (c ∷ t) = go (c == 10) (cut_length t)
-  where
-    go : (b : Bool) → length (cut t) ≤ length t → length (cond b ([] ∷ cut t) (with_first c (cut t))) ≤ suc (length t)
-    go true le = omega (arith, le)
-    go false le = omega (arith, le, first_length c (cut t))
 
 -- each group has a line of its own
 grouped_length : (ps : List (ℕ × List ℕ)) → length (grouped ps) ≤ length ps

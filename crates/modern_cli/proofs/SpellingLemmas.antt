@@ -4,6 +4,7 @@ use Rattle.std.specs.Fmt.{decimal}
 use Rattle.std.specs.List.{list_all}
 use Rattle.std.proofs.lemmas.Fmt.{decimal_by_steps}
 use Rattle.std.proofs.lemmas.List.Folds.{list_all-append}
+use Rattle.std.proofs.lemmas.Bool.{and_from}
 use Rattle.text_base.specs.Chars.{is_name}
 use Rattle.text_base.specs.Trees.{UnaryOp, plus, minus, BinaryOp, add, subtract, Expr, name, Action, assign, stop}
 use Rattle.text_base.specs.Constants.{SpellsOperand, spells_constant, spells_variable}
@@ -11,7 +12,6 @@ use Rattle.tree77.specs.Spelling.{SpellsExpr, spells_operand, spells_signed, spe
 use Rattle.tree77.specs.Typing.{expr_names, action_names}
 use Rattle.tree90.specs.Printed.{sign_text, operator_text, expr_text, action_text}
 use Rattle.tree90.specs.Proper.{IsOperand, operand_int, operand_name, IsSum, only_operand, signed_operand, sum_of, IsWritableAction, writable_assign, writable_stop}
-use Rattle.modern_cli.proofs.Names.{true_both}
 use Rattle.modern_cli.proofs.ShortPieces.{has_no_feed, no_feed_append, no_feed_name}
 
 -- a number in decimal has no LF
@@ -58,7 +58,7 @@ operand_is_plain : (u : List ℕ) (e : Expr) → SpellsOperand u e → PlainOper
 operand_is_plain u e (spells_constant {v} c is) =
     subst PlainOperand (sym is) (record { plain = no_feed_decimal v (omega (arith, c.within)); named = refl; operand = operand_int c.within })
 operand_is_plain u e (spells_variable named is) =
-    subst PlainOperand (sym is) (record { plain = no_feed_name u named; named = true_both (is_name u) true named refl; operand = operand_name named })
+    subst PlainOperand (sym is) (record { plain = no_feed_name u named; named = and_from (is_name u) true named refl; operand = operand_name named })
 
 expr_is_plain : (u : List ℕ) (e : Expr) → SpellsExpr u e → PlainExpr e
 expr_is_plain u e (spells_operand spelled) =
@@ -72,7 +72,7 @@ expr_is_plain u e (spells_sum {t = t} {u = v} {op = op} {a = a} {b = b} whole op
     subst PlainExpr (sym is)
     (record {
       plain = no_feed_sum op (expr_text a) (expr_text b) l.plain r.plain;
-      named = list_all-append is_name (expr_names a) (expr_names b) ∙ true_both _ _ l.named r.named;
+      named = list_all-append is_name (expr_names a) (expr_names b) ∙ and_from _ _ l.named r.named;
       sum = sum_of l.sum r.operand;
     })
 
@@ -87,7 +87,7 @@ pub record PlainAction (a : Action) : Type 0 where
 assign_is_plain : (x : List ℕ) (e : Expr) → is_name x ≡ true → PlainExpr e → PlainAction (assign (name x) e)
 assign_is_plain x e named value = record {
   plain = no_feed_append (x ++ codes " = ") (expr_text e) (no_feed_append x (codes " = ") (no_feed_name x named) refl) value.plain;
-  named = true_both (is_name x) (list_all is_name (expr_names e)) named value.named;
+  named = and_from (is_name x) (list_all is_name (expr_names e)) named value.named;
   writable = writable_assign named value.sum;
 }
 

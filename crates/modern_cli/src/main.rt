@@ -2,6 +2,7 @@
 #![tactic(auto)]
 
 mod answers;
+mod built_expression;
 mod convert;
 mod expression;
 mod free_text;

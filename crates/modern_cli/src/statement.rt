@@ -2,13 +2,13 @@
 ghost use Rattle.std.specs.Prelude.{◌≡◌, ◌<◌, ◌==◌, [], ◌∷◌, ◌++◌, length, IfOk, OnOk, IfSome};
 ghost use Rattle.std.specs.List.{position_from};
 ghost use Rattle.std.specs.Option.{option_map};
-ghost use Rattle.text_base.specs.Chars.{to_upper};
 ghost use Rattle.text_base.specs.Kept.{read_characters};
 ghost use Rattle.tree77.specs.Reading.{read_assign, read_header, read_continue, read_stop, read_word, read_statement};
 ghost use Rattle.modern_cli.specs.StatementViews.{statement_of};
 
 use crate::expression::expression;
 use std::alloc::{AllocError, Global};
+use text_base::chars::to_upper;
 use text_base::{Bytes, Name};
 use tree77::Expr;
 
@@ -94,16 +94,6 @@ pub fn spelled(alloc: Global, text: &[u8]) -> Result<Option<Statement>, AllocErr
             assignment(alloc, variable, value)
         }
         None => word(alloc, text),
-    }
-}
-
-fn to_upper(byte: u8) -> u8
-    ensures { result ≡ to_upper byte }
-{
-    if 97 <= byte && byte <= 122 {
-        byte - 32
-    } else {
-        byte
     }
 }
 

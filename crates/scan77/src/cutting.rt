@@ -5,11 +5,11 @@ ghost use Rattle.text_base.specs.Pieces as form;
 ghost use Rattle.tree77.specs.Tokens as plain;
 ghost use Rattle.scan77.specs.TokenViews.{piece_of, open_of, kind_of_token, view, placed, after};
 
-use crate::parts::{is_digit, is_name_byte, is_upper};
 use crate::pieces::{Piece, one_byte};
 use crate::{Token, TokenKind, Tokens};
 use sqlite_items::Items;
 use std::alloc::{AllocError, Global};
+use text_base::chars::{is_digit, is_name_byte, is_upper};
 use text_base::{Bytes, Place};
 
 /// The run or the digits that are being read, as far as they have come.

@@ -16,7 +16,7 @@ pub use classification::classify;
 pub use kind::Kind;
 pub use scan_error::ScanError;
 pub use token::{Token, TokenKind, Tokens};
-pub use tokenizing::tokens;
+pub use tokenizing::{read_tokens, tokens};
 pub use word::Word;
 
 #[cfg(test)]

@@ -1,27 +1,17 @@
 // The characters of a statement without blanks and with kept text aside.
 ghost use Rattle.std.specs.Prelude.{◌≡◌, ◌<◌, length, IfSome};
 ghost use Rattle.std.specs.Option.{option_map};
-ghost use Rattle.text_base.specs.Chars.{to_upper};
 ghost use Rattle.tree77.specs.Kinds.{outline};
 ghost use Rattle.scan77.specs.Views.{outline_of, uncons};
 
 use card_reader::Card;
+use text_base::chars::to_upper;
 
 /// What is left of a statement: its characters, and a mark for each, 1 where it is kept text.
 #[derive(Clone, Copy)]
 pub struct Outline<'a> {
     text: &'a [u8],
     kept: &'a [u8],
-}
-
-pub fn to_upper(byte: u8) -> u8
-    ensures { result ≡ to_upper byte }
-{
-    if 97 <= byte && byte <= 122 {
-        byte - 32
-    } else {
-        byte
-    }
 }
 
 impl<'a> Outline<'a> {

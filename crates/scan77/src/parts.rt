@@ -1,30 +1,13 @@
 // Parts of statements, each with what is left behind it.
 ghost use Rattle.std.specs.Prelude.{◌≡◌, ◌<◌, [], ◌∷◌, true};
 ghost use Rattle.std.specs.Option.{option_map};
-ghost use Rattle.text_base.specs.Chars.{is_upper, is_digit, is_name_byte};
+ghost use Rattle.text_base.specs.Chars.{is_digit, is_name_byte};
 ghost use Rattle.tree77.specs.Kinds.{open_after};
 ghost use Rattle.tree77.specs.KindReading as reading;
 ghost use Rattle.scan77.specs.Views.{outline_of};
 
 use crate::outline::Outline;
-
-pub fn is_upper(byte: u8) -> bool
-    ensures { result ≡ is_upper byte }
-{
-    65 <= byte && byte <= 90
-}
-
-pub fn is_digit(byte: u8) -> bool
-    ensures { result ≡ is_digit byte }
-{
-    48 <= byte && byte <= 57
-}
-
-pub fn is_name_byte(byte: u8) -> bool
-    ensures { result ≡ is_name_byte byte }
-{
-    is_upper(byte) || is_digit(byte) || byte == b'_'
-}
+use text_base::chars::{is_digit, is_name_byte, is_upper};
 
 /// What is left behind a character, if it stands here.
 fn behind_byte(at: Outline<'_>, byte: u8) -> Option<Outline<'_>>

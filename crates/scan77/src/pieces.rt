@@ -5,11 +5,11 @@ ghost use Rattle.text_base.specs.Kept.{scan_after};
 ghost use Rattle.card_reader.specs.Views.{scan_of};
 ghost use Rattle.scan77.specs.TokenViews.{piece_of, current_of};
 
-use crate::outline::to_upper;
 use card_reader::Scan;
 use sqlite_items::Items;
 use std::alloc::{AllocError, Global};
 use text_base::Bytes;
+use text_base::chars::to_upper;
 
 /// A character outside kept text as it is read; a character constant with its apostrophes, or the text of an nH; or a
 /// character constant that doesn't end.

@@ -11,7 +11,9 @@ use std::alloc::Global;
 use text_base::{Cause, one_list_of_pieces};
 use tree77::one_cut;
 
-fn read_tokens(alloc: Global, card: &Card) -> Result<Tokens, ScanError>
+/// The tokens of a statement, as `tokens` gives them, by the reading of its characters one after another: `Refused` with
+/// the cause `NotAStatement` exactly where there are none. The clause speaks of cards of any length.
+pub fn read_tokens(alloc: Global, card: &Card) -> Result<Tokens, ScanError>
     ensures { Reads card.now.place (read_tokens (pieces_of card.now.label card.now.text) no_token) result }
 {
     let pieces = pieces(alloc, card.label, card.text.as_slice())?;

@@ -37,7 +37,7 @@ first_length c [] = omega arith
 first_length c (l ∷ ls) = omega arith
 
 -- each line has a byte of its own
-cut_length : (bytes : List ℕ) → length (cut bytes) ≤ length bytes
+pub cut_length : (bytes : List ℕ) → length (cut bytes) ≤ length bytes
 cut_length [] = omega arith
 cut_length (c ∷ t) = go (c == 10) (cut_length t)
   where

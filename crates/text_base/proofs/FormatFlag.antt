@@ -16,7 +16,7 @@ is_part : IsPart 0 (codes "FORMAT(")
 is_part = search rules
 
 -- a text begins with some characters
-abbrev begins : List ℕ → List ℕ → Bool
+abbrev pub begins : List ℕ → List ℕ → Bool
 begins p text = bytes_eq (take (length p) (characters text)) p
 
 -- after so many characters of `FORMAT(`, which leave no count
@@ -83,7 +83,7 @@ after_matching k c lt differ unblank =
     go false = refl
 
 -- what a text begins with, after a character that is no blank
-begins_at : (x c : ℕ) (p t : List ℕ) → (c == 32) ≡ false → begins (x ∷ p) (c ∷ t) ≡ ((to_upper c == x) && begins p t)
+pub begins_at : (x c : ℕ) (p t : List ℕ) → (c == 32) ≡ false → begins (x ∷ p) (c ∷ t) ≡ ((to_upper c == x) && begins p t)
 begins_at x c p t e = ap (λ b. bytes_eq (take (length (x ∷ p)) (map to_upper (cond (not b) (c ∷ without_blanks t) (without_blanks t)))) (x ∷ p)) e
 
 -- ---- the flag

@@ -60,7 +60,8 @@ next_count n c = if c == 32 then n else (if is_digit c then more_count n c else 
 pub digit_range : (c : ℕ) → is_digit c ≡ true → (48 ≤ c) × (c ≤ 57)
 digit_range c e = let parts = and_parts (nat_le 48 c) (nat_le c 57) e in (leb-true 48 c parts.0, leb-true c 57 parts.1)
 
-value_of_digit : (c : ℕ) → is_digit c ≡ true → digit_value c + 48 ≡ c
+-- the value of a digit
+pub value_of_digit : (c : ℕ) → is_digit c ≡ true → digit_value c + 48 ≡ c
 value_of_digit c e = digit_value_digit c (digit_range c e)
 
 -- the cap can come at each digit or at the end

@@ -2,6 +2,7 @@
 #![tactic(auto)]
 
 mod bytes;
+pub mod chars;
 mod disk;
 mod laws;
 mod memory_shelf;

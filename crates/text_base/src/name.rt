@@ -1,9 +1,9 @@
 // A symbolic name.
 ghost use Rattle.std.specs.Prelude.{◌≡◌, ◌∷◌, [], IfOk, IfSome, IsNone, IsTrue, ◌↔◌, false, Ok, None, Some};
-ghost use Rattle.std.specs.List.{list_all};
-ghost use Rattle.text_base.specs.Chars.{is_upper, is_name_byte, is_name};
+ghost use Rattle.text_base.specs.Chars.{is_name};
 
 use crate::Bytes;
+use crate::chars::{are_name_bytes, is_upper};
 use std::alloc::{AllocError, Global};
 use std::marker::Model;
 
@@ -23,24 +23,6 @@ impl Model for Name {
     ghost view = { λ name. name.characters };
 
     ghost invariant = { λ name. IsTrue (is_name name.characters) };
-}
-
-fn is_upper(byte: u8) -> bool
-    ensures { result ≡ is_upper byte }
-{
-    65 <= byte && byte <= 90
-}
-
-fn is_name_byte(byte: u8) -> bool
-    ensures { result ≡ is_name_byte byte }
-{
-    is_upper(byte) || (48 <= byte && byte <= 57) || byte == 95
-}
-
-fn are_name_bytes(bytes: &[u8]) -> bool
-    ensures { result ≡ list_all is_name_byte bytes.now }
-{
-    bytes.iter().all(|byte| is_name_byte(*byte))
 }
 
 impl Name {

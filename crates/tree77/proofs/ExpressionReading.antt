@@ -5,28 +5,22 @@ use Rattle.std.specs.List.{list_all}
 use Rattle.std.specs.Option.{option_map, option_and_then}
 use Rattle.std.specs.Str.Parse.{digits_value}
 use Rattle.std.proofs.lemmas.Grind.{common_steps}
-use Rattle.std.proofs.lemmas.Bool.{eqb-true, leb-true, not-true}
+use Rattle.std.proofs.lemmas.Bool.{eqb-true, leb-true, not-true, and_from, and_parts}
 use Rattle.std.proofs.lemmas.List.{append-nil}
 use Rattle.text_base.specs.Chars.{is_upper, is_digit, is_name_byte, is_name}
 use Rattle.text_base.specs.Trees.{UnaryOp, plus, minus, BinaryOp, add, subtract, Expr, int, name, unary, binary}
 use Rattle.text_base.specs.Constants.{IsConstant, SpellsOperand, spells_constant, spells_variable, IsSign, is_plus, is_minus, IsOperator, is_add, is_subtract}
+use Rattle.text_base.proofs.CharTests.{digit_is_no_letter, digits_are_name_bytes}
 use Rattle.tree77.specs.Spelling.{SpellsExpr, spells_operand, spells_signed, spells_sum}
-use Rattle.tree77.specs.Reading.{is_constant, read_operand, is_sign, sign_of, operator_of, read_sum, read_expr, resume, is_inner, Stops}
-
-pub both_true : (a b : Bool) → (a && b) ≡ true → (a ≡ true) × (b ≡ true)
-both_true true b e = (refl, e)
-both_true false b e = absurd cc
-
-pub true_both : (a b : Bool) → a ≡ true → b ≡ true → (a && b) ≡ true
-true_both true b e f = f
-true_both false b e f = e
+use Rattle.tree77.specs.Reading.{is_constant, read_operand, is_sign, sign_of, operator_of, read_sum, read_expr, resume, Stops}
+use Rattle.tree77.proofs.Optional.{went, mapped}
 
 -- ---- constants and names
 
 pub constant_is : (u : List ℕ) → is_constant u ≡ true → IsConstant u (digits_value 10 u)
 constant_is u e =
-    let some = both_true (not (length u == 0)) (list_all is_digit u && nat_le (digits_value 10 u) 2147483647) e in
-    let digits = both_true (list_all is_digit u) (nat_le (digits_value 10 u) 2147483647) some.1 in
+    let some = and_parts (not (length u == 0)) (list_all is_digit u && nat_le (digits_value 10 u) 2147483647) e in
+    let digits = and_parts (list_all is_digit u) (nat_le (digits_value 10 u) 2147483647) some.1 in
     record { some = not_empty u some.0; digits = digits.0; is = refl; within = leb-true _ _ digits.1 }
   where
     not_empty : (u : List ℕ) → not (length u == 0) ≡ true → 0 < length u
@@ -36,34 +30,26 @@ constant_is u e =
 is_the_constant : (u : List ℕ) (v : ℕ) → IsConstant u v → is_constant u ≡ true
 is_the_constant u v c =
     let within : digits_value 10 u ≤ 2147483647 = omega (arith, c.is, c.within) in
-    true_both _ _ (not_empty u c.some) (true_both _ _ c.digits (le-leb _ _ within))
+    and_from _ _ (not_empty u c.some) (and_from _ _ c.digits (le-leb _ _ within))
   where
     not_empty : (u : List ℕ) → 0 < length u → not (length u == 0) ≡ true
     not_empty [] lt = absurd (omega arith)
     not_empty (c ∷ u) lt = grind (arith, common_steps)
 
 -- a name begins with a letter, so it is no constant
-pub digit_is_no_letter : (c : ℕ) → is_digit c ≡ true → is_upper c ≡ true → ⊥
-digit_is_no_letter c digit upper =
-    let d = both_true (nat_le 48 c) (nat_le c 57) digit in
-    let l = both_true (nat_le 65 c) (nat_le c 90) upper in
-    let low = leb-true c 57 d.1 in
-    let high = leb-true 65 c l.0 in
-    omega (arith, low, high)
-
 name_is_no_constant : (u : List ℕ) → is_name u ≡ true → is_constant u ≡ false
 name_is_no_constant u named = go (is_constant u) refl
   where
     first : (u : List ℕ) → list_all is_digit u ≡ true → is_upper (slice_index u 0) ≡ true → ⊥
     first [] digits upper = cc
-    first (c ∷ u) digits upper = digit_is_no_letter c (both_true (is_digit c) (list_all is_digit u) digits).0 upper
+    first (c ∷ u) digits upper = digit_is_no_letter c (and_parts (is_digit c) (list_all is_digit u) digits).0 upper
 
     go : (b : Bool) → is_constant u ≡ b → b ≡ false
     go false is = refl
     go true is =
-        let some = both_true (not (length u == 0)) (list_all is_digit u && nat_le (digits_value 10 u) 2147483647) is in
-        let digits = both_true (list_all is_digit u) (nat_le (digits_value 10 u) 2147483647) some.1 in
-        let upper = both_true (is_upper (slice_index u 0)) _ named in
+        let some = and_parts (not (length u == 0)) (list_all is_digit u && nat_le (digits_value 10 u) 2147483647) is in
+        let digits = and_parts (list_all is_digit u) (nat_le (digits_value 10 u) 2147483647) some.1 in
+        let upper = and_parts (is_upper (slice_index u 0)) _ named in
         absurd (first u digits.0 upper.0)
 
 -- ---- operands
@@ -102,29 +88,16 @@ name_byte_is_no_sign c e = plus_case (c == 43) refl
     plus_case false is = minus_case (c == 45) refl
     plus_case true is = let bad : is_name_byte 43 ≡ true = subst (λ z. is_name_byte z ≡ true) (eqb-true c 43 is) e in absurd cc
 
-digit_is_name_byte : (c : ℕ) → is_digit c ≡ true → is_name_byte c ≡ true
-digit_is_name_byte c e = go (is_upper c)
-  where
-    go : (b : Bool) → (b || is_digit c || c == 95) ≡ true
-    go true = refl
-    go false = ap (λ d. d || c == 95) e
-
-digits_are_name_bytes : (u : List ℕ) → list_all is_digit u ≡ true → list_all is_name_byte u ≡ true
-digits_are_name_bytes [] e = refl
-digits_are_name_bytes (c ∷ u) e =
-    let parts = both_true (is_digit c) (list_all is_digit u) e in
-    true_both (is_name_byte c) (list_all is_name_byte u) (digit_is_name_byte c parts.0) (digits_are_name_bytes u parts.1)
-
 pub operand_bytes : (u : List ℕ) (a : Expr) → SpellsOperand u a → list_all is_name_byte u ≡ true
 operand_bytes u a (spells_constant c is) = digits_are_name_bytes u c.digits
 operand_bytes u a (spells_variable named is) =
-    (both_true (list_all is_name_byte u) (nat_le (length u) 31) (both_true (is_upper (slice_index u 0)) (list_all is_name_byte u && nat_le (length u) 31) named).1).0
+    (and_parts (list_all is_name_byte u) (nat_le (length u) 31) (and_parts (is_upper (slice_index u 0)) (list_all is_name_byte u && nat_le (length u) 31) named).1).0
 
 no_sign_in : (u : List ℕ) → list_all is_name_byte u ≡ true → has_no_sign u ≡ true
 no_sign_in [] e = refl
 no_sign_in (c ∷ u) e =
-    let parts = both_true (is_name_byte c) (list_all is_name_byte u) e in
-    true_both (not (is_sign c)) (has_no_sign u) (name_byte_is_no_sign c parts.0) (no_sign_in u parts.1)
+    let parts = and_parts (is_name_byte c) (list_all is_name_byte u) e in
+    and_from (not (is_sign c)) (has_no_sign u) (name_byte_is_no_sign c parts.0) (no_sign_in u parts.1)
 
 pub operand_some : (u : List ℕ) (a : Expr) → SpellsOperand u a → 0 < length u
 operand_some u a (spells_constant c is) = c.some
@@ -137,7 +110,7 @@ operand_some (c ∷ u) a (spells_variable named is) = omega arith
 word_goes_on : (make : Expr → Expr) (word u r : List ℕ) → has_no_sign u ≡ true → read_sum make word (u ++ r) ≡ read_sum make (word ++ u) r
 word_goes_on make word [] r none = ap (λ w. read_sum make w r) (sym (append-nil word))
 word_goes_on make word (c ∷ u) r none =
-    let parts = both_true (not (is_sign c)) (has_no_sign u) none in
+    let parts = and_parts (not (is_sign c)) (has_no_sign u) none in
     ap (λ b. if b then option_and_then (λ a. read_sum (binary (operator_of c) (make a)) [] (u ++ r)) (read_operand word) else read_sum make (word ++ c ∷ []) (u ++ r)) (not-true (is_sign c) parts.0)
     ∙ word_goes_on make (word ++ c ∷ []) u r parts.1
     ∙ ap (λ w. read_sum make w r) (append_assoc word (c ∷ []) u)
@@ -167,7 +140,7 @@ expr_goes_on t r x stops (spells_operand spelled) = starts t (no_sign_in t (oper
     starts : (t : List ℕ) → has_no_sign t ≡ true → 0 < length t → read_expr (t ++ r) ≡ read_sum (λ a. a) [] (t ++ r)
     starts [] none some = absurd (omega arith)
     starts (c ∷ t) none some =
-        let parts = both_true (not (is_sign c)) (has_no_sign t) none in
+        let parts = and_parts (not (is_sign c)) (has_no_sign t) none in
         ap (λ b. if b then read_sum (unary (sign_of c)) [] (t ++ r) else read_sum (λ a. a) [] (c ∷ (t ++ r))) (not-true (is_sign c) parts.0)
 expr_goes_on t r x stops (spells_signed {c = c} {u = u} {op = op} {a = a} whole sign spelled is) =
     let s = sign_is c op sign in
@@ -213,24 +186,6 @@ an_operator c e = go (c == 43) refl
     go true is = is_add (eqb-true c 43 is)
     go false is = is_subtract (eqb-true c 45 (other false is refl))
 
-record Went {A B : Type 0} (o : Option A) (f : A → Option B) (y : B) : Type 0 where
-  from : A
-  was : o ≡ Some from
-  is : f from ≡ Some y
-
-went : {A B : Type 0} (o : Option A) (f : A → Option B) (y : B) → option_and_then f o ≡ Some y → Went o f y
-went None f y e = absurd cc
-went (Some x) f y e = record { from = x; was = refl; is = e }
-
-record Mapped {A B : Type 0} (o : Option A) (f : A → B) (y : B) : Type 0 where
-  from : A
-  was : o ≡ Some from
-  is : f from ≡ y
-
-mapped : {A B : Type 0} (o : Option A) (f : A → B) (y : B) → option_map f o ≡ Some y → Mapped o f y
-mapped None f y e = absurd cc
-mapped (Some x) f y e = record { from = x; was = refl; is = cc }
-
 sum_spelled : (t front word : List ℕ) (make : Expr → Expr) (x : Expr) → ((u : List ℕ) (a : Expr) → SpellsOperand u a → SpellsExpr (front ++ u) (make a)) → read_sum make word t ≡ Some x → SpellsExpr (front ++ (word ++ t)) x
 sum_spelled [] front word make x makes e =
     let m = mapped (read_operand word) make x e in
@@ -263,13 +218,3 @@ expr_spelled (c ∷ t) x e = go (is_sign c) refl e
     go : (b : Bool) → is_sign c ≡ b → (if b then read_sum (unary (sign_of c)) [] t else read_sum (λ a. a) [] (c ∷ t)) ≡ Some x → SpellsExpr (c ∷ t) x
     go true is e = sum_spelled t (c ∷ []) [] (unary (sign_of c)) x (λ u a spelled. spells_signed refl (a_sign c is) spelled refl) e
     go false is e = sum_spelled (c ∷ t) [] [] (λ a. a) x (λ u a spelled. spells_operand spelled) e
-
--- the first operand is read, and then the rest
-pub first_operand : (make : Expr → Expr) (word rest : List ℕ) → list_all is_inner word ≡ true → Stops rest → read_sum make [] (word ++ rest) ≡ option_and_then (λ a. resume (make a) rest) (read_operand word)
-first_operand make word rest none stops = word_goes_on make [] word rest none ∙ go rest stops (read_operand word) refl
-  where
-    go : (rest : List ℕ) → Stops rest → (o : Option Expr) → read_operand word ≡ o → read_sum make word rest ≡ option_and_then (λ a. resume (make a) rest) (read_operand word)
-    go rest stops (Some a) is = word_ends make word rest a stops is ∙ sym (ap (option_and_then (λ x. resume (make x) rest)) is)
-    go [] stops None is = ap (option_map make) is ∙ sym (ap (option_and_then (λ x. resume (make x) [])) is)
-    go (c ∷ rest) stops None is =
-        ap (λ b. if b then option_and_then (λ x. read_sum (binary (operator_of c) (make x)) [] rest) (read_operand word) else read_sum make (word ++ c ∷ []) rest) stops

@@ -1,10 +1,11 @@
 -- A statement is a FORMAT by its own characters exactly where it is one by its outline.
-use Rattle.std.proofs.Common.{◌≡◌, ℕ, ◌+◌, ◌<◌, Bool, true, false, not, ◌&&◌, ◌||◌, cond, ◌==◌, List, [], ◌∷◌, length, take, slice_index, codes, map, filter, Option, None, bytes_eq, refl, sym, ap, ◌∙◌, subst, arith, rules}
+use Rattle.std.proofs.Common.{◌≡◌, ℕ, ◌+◌, ◌<◌, Bool, true, false, not, ◌&&◌, ◌||◌, cond, ◌==◌, List, [], ◌∷◌, slice_index, codes, map, filter, Option, None, refl, sym, ap, ◌∙◌, subst, arith, rules}
 use Rattle.std.specs.Prelude.{if◌then◌else◌}
 use Rattle.std.specs.List.{zip}
 use Rattle.std.proofs.lemmas.Bool.{eqb-true, eqb-false, ne_eqb, eq-eqb, lt-ltb}
-use Rattle.text_base.specs.Chars.{is_digit, to_upper, without_blanks, characters}
+use Rattle.text_base.specs.Chars.{is_digit, to_upper, characters}
 use Rattle.text_base.specs.Kept.{is_format, Scan, more_matched, more_count, count_or_none, is_h, scan_plain, scan_after, marks_from, kept}
+use Rattle.text_base.proofs.FormatFlag.{begins, begins_at}
 use Rattle.tree77.specs.Kinds.{outline, IsFormat}
 use Rattle.tree77.specs.KindReading.{behind_text, stands, reads_format}
 use Rattle.tree77.proofs.KindSteps.{format_reads, format_found}
@@ -21,10 +22,6 @@ is_part = search rules
 -- after so many characters of `FORMAT(`
 abbrev matching : ℕ → Option ℕ → Scan
 matching k n = record { matched = k; inside = false; left = 0; count = n }
-
--- a text begins with some characters
-abbrev begins : List ℕ → List ℕ → Bool
-begins p text = bytes_eq (take (length p) (characters text)) p
 
 -- the outline of a text from a state on begins with some characters
 abbrev outline_begins : List ℕ → Scan → List ℕ → Bool
@@ -68,10 +65,6 @@ outline_begins_at x c k n p t differ unblank =
     go : (b : Bool) → stands (cond b (behind_text p (outline t (marks_from (scan_after (matching k n) c) t))) None) ≡ (b && outline_begins p (scan_after (matching k n) c) t)
     go true = refl
     go false = refl
-
--- what a text begins with, at a character that is no blank
-begins_at : (x c : ℕ) (p t : List ℕ) → (c == 32) ≡ false → begins (x ∷ p) (c ∷ t) ≡ ((to_upper c == x) && begins p t)
-begins_at x c p t e = ap (λ b. bytes_eq (take (length (x ∷ p)) (map to_upper (cond (not b) (c ∷ without_blanks t) (without_blanks t)))) (x ∷ p)) e
 
 -- ---- a text
 

@@ -4,7 +4,7 @@ use Rattle.std.specs.Prelude.{◌==◌, if◌then◌else◌}
 use Rattle.std.specs.List.{list_all}
 use Rattle.std.proofs.lemmas.Bool.{and_parts, and_from, eqb-true, eq-eqb, ne_eqb, eqb-false, false_from_ne_true}
 use Rattle.text_base.specs.Chars.{is_upper, is_digit, is_name_byte}
-use Rattle.tree77.proofs.ExpressionReading.{digit_is_no_letter}
+use Rattle.text_base.proofs.CharTests.{digit_is_no_letter}
 use Rattle.tree77.specs.Kinds.{is_word, is_number, open_after, open_at_end, IsBalanced, balanced_nothing, balanced_other, balanced_group, IsGroup}
 use Rattle.tree77.specs.KindReading.{behind_text, behind_all, behind_name, behind_number, behind_close, behind_group, has_comma}
 

@@ -4,10 +4,10 @@ use Rattle.std.specs.Prelude.{nat_lt, if◌then◌else◌}
 use Rattle.std.specs.Str.{bytes_eq}
 use Rattle.std.proofs.lemmas.Bool.{or_cases, or_left, or_right, ltb-true, ltb-false}
 use Rattle.std.proofs.lemmas.Slice.Eq.{bytes_eq-Decides}
+use Rattle.text_base.proofs.CharTests.{same_bytes}
 use Rattle.tree77.specs.Kinds.{is_among}
 use Rattle.tree77.specs.KindReading.{behind_text, stands, longer, longest_of}
 use Rattle.tree77.proofs.Optional.{stood}
-use Rattle.tree77.proofs.StatementReading.{same_bytes}
 use Rattle.tree77.proofs.KindParts.{behind_text_is, text_stands}
 
 -- ---- words of a list

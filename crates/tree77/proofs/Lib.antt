@@ -11,3 +11,4 @@ pub mod KindLaw
 pub mod FormatLaw
 pub mod TokenCut
 pub mod TokenStuck
+pub mod SyntaxPlains

@@ -4,17 +4,14 @@ use Rattle.std.specs.Prelude.{nat_le, slice_index, if◌then◌else◌}
 use Rattle.std.specs.List.{list_all, position_from}
 use Rattle.std.specs.Option.{option_map}
 use Rattle.std.specs.Str.{bytes_eq}
-use Rattle.std.proofs.lemmas.Bool.{eqb-true, not-true}
+use Rattle.std.proofs.lemmas.Bool.{eqb-true, not-true, and_from, and_parts}
 use Rattle.std.proofs.lemmas.List.{take_at}
-use Rattle.std.proofs.lemmas.Slice.Eq.{bytes_eq-Decides}
 use Rattle.text_base.specs.Chars.{is_upper, is_name_byte, is_name}
 use Rattle.text_base.specs.Trees.{Expr, name, assign, stop}
+use Rattle.text_base.proofs.CharTests.{same_bytes, all_append}
 use Rattle.tree77.specs.Spelling.{Statement, program, action, continue, end, Spells, spells_program, spells_assign, spells_continue, spells_stop, spells_end}
 use Rattle.tree77.specs.Reading.{read_expr, read_assign, read_header, read_word, read_parts, read_statement}
-use Rattle.tree77.proofs.ExpressionReading.{both_true, true_both, expr_read, expr_spelled}
-
-pub same_bytes : (a b : List ℕ) → bytes_eq a b ≡ true → a ≡ b
-same_bytes a b e = grind (arith, bytes_eq-Decides)
+use Rattle.tree77.proofs.ExpressionReading.{expr_read, expr_spelled}
 
 -- ---- the equals sign
 
@@ -27,14 +24,14 @@ has_no_equals = list_all (λ c. not (is_equals c))
 found_at : (x u : List ℕ) (b : ℕ) → has_no_equals x ≡ true → position_from is_equals b (x ++ 61 ∷ u) ≡ Some (b + length x)
 found_at [] u b none = let e : b ≡ b + 0 = omega arith in ap Some e
 found_at (c ∷ x) u b none =
-    let parts = both_true (not (is_equals c)) (has_no_equals x) none in
+    let parts = and_parts (not (is_equals c)) (has_no_equals x) none in
     let e : b + 1 + length x ≡ b + suc (length x) = omega arith in
     ap (λ t. cond t (Some b) (position_from is_equals (b + 1) (x ++ 61 ∷ u))) (not-true (is_equals c) parts.0) ∙ found_at x u (b + 1) parts.1 ∙ ap Some e
 
 not_found : (t : List ℕ) (b : ℕ) → has_no_equals t ≡ true → position_from is_equals b t ≡ None
 not_found [] b none = refl
 not_found (c ∷ t) b none =
-    let parts = both_true (not (is_equals c)) (has_no_equals t) none in
+    let parts = and_parts (not (is_equals c)) (has_no_equals t) none in
     ap (λ q. cond q (Some b) (position_from is_equals (b + 1) t)) (not-true (is_equals c) parts.0) ∙ not_found t (b + 1) parts.1
 
 -- a text is what stands before the sign, the sign, and what stands behind it
@@ -62,17 +59,13 @@ byte_is_no_equals c e = go (is_equals c) refl
 bytes_are_no_equals : (x : List ℕ) → list_all is_name_byte x ≡ true → has_no_equals x ≡ true
 bytes_are_no_equals [] e = refl
 bytes_are_no_equals (c ∷ x) e =
-    let parts = both_true (is_name_byte c) (list_all is_name_byte x) e in
-    true_both (not (is_equals c)) (has_no_equals x) (byte_is_no_equals c parts.0) (bytes_are_no_equals x parts.1)
+    let parts = and_parts (is_name_byte c) (list_all is_name_byte x) e in
+    and_from (not (is_equals c)) (has_no_equals x) (byte_is_no_equals c parts.0) (bytes_are_no_equals x parts.1)
 
 name_has_no_equals : (x : List ℕ) → is_name x ≡ true → has_no_equals x ≡ true
 name_has_no_equals x e =
-    let all = both_true (is_upper (slice_index x 0)) (list_all is_name_byte x && nat_le (length x) 31) e in
-    bytes_are_no_equals x (both_true (list_all is_name_byte x) (nat_le (length x) 31) all.1).0
-
-all_append : (p : ℕ → Bool) (x y : List ℕ) → list_all p x ≡ true → list_all p y ≡ true → list_all p (x ++ y) ≡ true
-all_append p [] y e f = f
-all_append p (c ∷ x) y e f = let parts = both_true (p c) (list_all p x) e in true_both (p c) (list_all p (x ++ y)) parts.0 (all_append p x y parts.1 f)
+    let all = and_parts (is_upper (slice_index x 0)) (list_all is_name_byte x && nat_le (length x) 31) e in
+    bytes_are_no_equals x (and_parts (list_all is_name_byte x) (nat_le (length x) 31) all.1).0
 
 -- ---- statements
 
@@ -92,7 +85,7 @@ header_spelled t s e = go (bytes_eq (take 7 t) (codes "PROGRAM") && is_name (dro
   where
     go : (b : Bool) → (bytes_eq (take 7 t) (codes "PROGRAM") && is_name (drop 7 t)) ≡ b → (if b then Some (program (drop 7 t)) else None) ≡ Some s → Spells t s
     go true is e =
-        let parts = both_true (bytes_eq (take 7 t) (codes "PROGRAM")) (is_name (drop 7 t)) is in
+        let parts = and_parts (bytes_eq (take 7 t) (codes "PROGRAM")) (is_name (drop 7 t)) is in
         let whole : t ≡ codes "PROGRAM" ++ drop 7 t = sym (take-append-drop 7 t) ∙ ap (λ (x : List ℕ). x ++ drop 7 t) (same_bytes _ _ parts.0) in
         let same : program (drop 7 t) ≡ s = cc in
         spells_program whole parts.1 (sym same)

@@ -7,14 +7,14 @@ use Rattle.std.proofs.lemmas.Bool.{and_parts, and_from, or_cases, eqb-true, fals
 use Rattle.std.proofs.lemmas.List.{append-nil}
 use Rattle.text_base.specs.Chars.{is_upper, is_digit, is_name_byte}
 use Rattle.text_base.specs.Pieces.{Piece, plain, whole, broken, piece_text}
+use Rattle.text_base.proofs.CharTests.{digit_is_no_letter}
 use Rattle.tree77.specs.Tokens.{TokenKind, run, digits, kept, mark, Token, is_mark, StopsAt, IsCut, cut_nothing, cut_run, cut_digits, cut_text, cut_mark, token_pieces, Open, no_token, open_run, open_digits, with_open, begun_at, read_next, read_tokens}
-use Rattle.tree77.proofs.ExpressionReading.{digit_is_no_letter}
 use Rattle.tree77.proofs.Optional.{mapped}
 
 -- ---- the tests are apart
 
 -- what holds of each mark holds of a character that is one
-each_mark : (test : ℕ → Bool) (c : ℕ) → test 40 ≡ false → test 41 ≡ false → test 44 ≡ false → test 61 ≡ false → test 43 ≡ false → test 45 ≡ false → test 42 ≡ false → test 47 ≡ false
+pub each_mark : (test : ℕ → Bool) (c : ℕ) → test 40 ≡ false → test 41 ≡ false → test 44 ≡ false → test 61 ≡ false → test 43 ≡ false → test 45 ≡ false → test 42 ≡ false → test 47 ≡ false
     → test 58 ≡ false → test 46 ≡ false → is_mark c ≡ true → test c ≡ false
 each_mark test c a b d e f g h i j k =
     other 46 k (other 58 j (other 47 i (other 42 h (other 45 g (other 43 f (other 61 e (other 44 d (other 41 b (λ same. ap test (eqb-true c 40 same) ∙ a)))))))))
@@ -32,7 +32,8 @@ digit_is_not_upper c digit = false_from_ne_true (is_upper c) (digit_is_no_letter
 mark_is_not_upper : (c : ℕ) → is_mark c ≡ true → is_upper c ≡ false
 mark_is_not_upper c = each_mark is_upper c refl refl refl refl refl refl refl refl refl refl
 
-mark_is_not_digit : (c : ℕ) → is_mark c ≡ true → is_digit c ≡ false
+-- a mark is no digit
+pub mark_is_not_digit : (c : ℕ) → is_mark c ≡ true → is_digit c ≡ false
 mark_is_not_digit c = each_mark is_digit c refl refl refl refl refl refl refl refl refl refl
 
 -- `begun_at` by what its three tests answer

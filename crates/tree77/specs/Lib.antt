@@ -7,5 +7,11 @@ pub mod Reading
 pub mod Kinds
 pub mod KindReading
 pub mod Tokens
+pub mod Syntax
+pub mod Built
+pub mod SyntaxPlain
+pub mod Expressions
+pub mod Items
+pub mod Stops
 pub mod Layout
 pub mod Meaning

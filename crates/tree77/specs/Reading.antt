@@ -50,10 +50,6 @@ abbrev pub resume : Expr → List ℕ → Option Expr
 resume x [] = Some x
 resume x (c ∷ t) = read_sum (binary (operator_of c) x) [] t
 
--- a character of an operand
-abbrev pub is_inner : ℕ → Bool
-is_inner c = not (is_sign c)
-
 -- where an operand ends: at a sign, or at the end
 abbrev pub Stops : List ℕ → Type 0
 Stops [] = Unit {0}

@@ -1,34 +1,27 @@
 // What holds of the definitions of a source program.
 ghost use Rattle.std.specs.Prelude.{◌≡◌, ◌++◌, ◌∷◌, ℕ, List, [], Some, None, true, flat_map};
-ghost use Rattle.std.specs.List.{list_all};
-ghost use Rattle.std.specs.Option.{option_and_then};
 ghost use Rattle.text_base.specs.Trees.{Expr};
 ghost use Rattle.tree77.specs.Tree.{SourceProgram};
 ghost use Rattle.text_base.specs.Cards.{Card};
 ghost use Rattle.tree77.specs.Source.{SpellsCard, IsSource};
-ghost use Rattle.tree77.specs.Spelling.{Statement, Spells};
+ghost use Rattle.tree77.specs.Spelling.{Statement, SpellsExpr, Spells};
 ghost use Rattle.text_base.specs.Kept.{is_format, kept};
 ghost use Rattle.tree77.specs.Kinds.{Kind, IsKind, IsFormat, outline};
 ghost use Rattle.tree77.specs.KindReading.{read_kind};
 ghost use Rattle.text_base.specs.Pieces.{Piece, piece_text};
 ghost use Rattle.tree77.specs.Tokens.{Token, IsCut, IsStuck, token_pieces, no_token, read_tokens};
-ghost use Rattle.tree77.specs.Reading.{read_operand, read_sum, resume, is_inner, Stops, read_statement, read_card, read_source};
+ghost use Rattle.tree77.specs.Reading.{read_expr, read_statement, read_card, read_source};
 
-/// The reading of statements and of sources as functions gives what is spelled, and all that is spelled.
+/// The reading of expressions, of statements and of sources as functions gives what is spelled, and all that is spelled.
 pub fn reading_is_spelling()
+    ensures expr_found { (text : List ℕ) (e : Expr) → read_expr text ≡ Some e → SpellsExpr text e }
+    ensures expr_only { (text : List ℕ) (e : Expr) → SpellsExpr text e → read_expr text ≡ Some e }
     ensures statement_found { (text : List ℕ) (s : Statement) → read_statement text ≡ Some s → Spells text s }
     ensures statement_only { (text : List ℕ) (s : Statement) → Spells text s → read_statement text ≡ Some s }
     ensures card_found { (card : Card) (s : Statement) → read_card card ≡ Some s → SpellsCard card s }
     ensures card_only { (card : Card) (s : Statement) → SpellsCard card s → read_card card ≡ Some s }
     ensures source_found { (file : ℕ) (bytes : List ℕ) (p : SourceProgram) → read_source file bytes ≡ Some p → IsSource file bytes p }
     ensures source_only { (file : ℕ) (bytes : List ℕ) (p : SourceProgram) → IsSource file bytes p → read_source file bytes ≡ Some p }
-{}
-
-/// A sum is read operand by operand: where the characters of a word belong to an operand, and a sign or nothing
-/// follows, the word is read as an operand, and the sum goes on from it.
-pub fn reading_operands()
-    ensures { (make : Expr → Expr) (word rest : List ℕ) → list_all is_inner word ≡ true → Stops rest
-        → read_sum make [] (word ++ rest) ≡ option_and_then (λ a. resume (make a) rest) (read_operand word) }
 {}
 
 /// A source has at most one program.

@@ -1,14 +1,15 @@
 -- The lines of a text that is written.
 use Rattle.std.proofs.Common.{◌≡◌, ℕ, zero, suc, ◌==◌, Bool, true, false, not, ◌&&◌, List, [], ◌∷◌, ◌++◌, map, refl, ap, ◌∙◌, append_assoc, arith}
 use Rattle.std.specs.Prelude.{min, ◌*◌, replicate, drop, if◌then◌else◌}
-use Rattle.std.proofs.lemmas.Bool.{eqb-true, not-true}
+use Rattle.std.proofs.lemmas.Bool.{eqb-true, not-true, and_parts}
 use Rattle.text_base.specs.Lines.{with_first, cut, is_blank}
 use Rattle.text_base.specs.Chars.{is_name_byte}
+use Rattle.text_base.proofs.CharTests.{all_append}
 use Rattle.tree90.specs.FreeText.{tokens, FreeLine, comment_line, statement_line, starts_comment, line_of, comment_lines}
 use Rattle.tree90.specs.Printed.{line, remark_text, remarks_text}
 use Rattle.tree90.specs.Proper.{is_writable_remark, are_writable_remarks}
 use Rattle.tree90.specs.Tree.{Remark}
-use Rattle.tree90.proofs.TokenLemmas.{both_true, all_append, has_no_break, name_byte}
+use Rattle.tree90.proofs.TokenLemmas.{has_no_break, name_byte}
 
 -- the lines of a text
 abbrev pub lines_of : List ℕ → List FreeLine
@@ -18,7 +19,7 @@ lines_of text = map line_of (cut text)
 cut_line : (l more : List ℕ) → has_no_break l ≡ true → cut (l ++ 10 ∷ more) ≡ l ∷ cut more
 cut_line [] more e = refl
 cut_line (c ∷ l) more e =
-    let parts = both_true (not (c == 10)) (has_no_break l) e in
+    let parts = and_parts (not (c == 10)) (has_no_break l) e in
     ap (λ b. if b then [] ∷ cut (l ++ 10 ∷ more) else with_first c (cut (l ++ 10 ∷ more))) (not-true (c == 10) parts.0)
     ∙ ap (with_first c) (cut_line l more parts.1)
 
@@ -76,7 +77,7 @@ line_step level text more unbroken begins = go (min (2 * level) 60)
 -- a blank text begins no comment by its mark
 blank_unmarked : (text : List ℕ) → is_blank text ≡ true → starts_comment text ≡ false
 blank_unmarked [] e = refl
-blank_unmarked (c ∷ text) e = go (c == 33) refl (both_true (c == 32) (is_blank text) e).0
+blank_unmarked (c ∷ text) e = go (c == 33) refl (and_parts (c == 32) (is_blank text) e).0
   where
     go : (b : Bool) → (c == 33) ≡ b → (c == 32) ≡ true → b ≡ false
     go false is blank = refl
@@ -86,10 +87,10 @@ blank_unmarked (c ∷ text) e = go (c == 33) refl (both_true (c == 32) (is_blank
 comment_step : (marked : Bool) (text more : List ℕ) → is_writable_remark (record { marked = marked; text = text }) ≡ true
     → lines_of (remark_text (record { marked = marked; text = text }) ++ more) ≡ comment_line (record { marked = marked; text = text }) ∷ lines_of more
 comment_step true text more e =
-    let parts = both_true (has_no_break text) true e in
+    let parts = and_parts (has_no_break text) true e in
     ap lines_of (append_assoc (33 ∷ text) (10 ∷ []) more) ∙ ap (map line_of) (cut_line (33 ∷ text) more parts.0)
 comment_step false text more e =
-    let parts = both_true (has_no_break text) (is_blank text) e in
+    let parts = and_parts (has_no_break text) (is_blank text) e in
     ap lines_of (append_assoc text (10 ∷ []) more)
     ∙ ap (map line_of) (cut_line text more parts.0)
     ∙ ap (λ b. (if b then comment_line (record { marked = true; text = drop 1 text }) else (if is_blank text then comment_line (record { marked = false; text = text }) else statement_line (tokens text))) ∷ lines_of more) (blank_unmarked text parts.1)
@@ -99,7 +100,7 @@ comment_step false text more e =
 pub comments_step : (remarks : List Remark) (more : List ℕ) → are_writable_remarks remarks ≡ true → lines_of (remarks_text remarks ++ more) ≡ comment_lines remarks ++ lines_of more
 comments_step [] more e = refl
 comments_step (r ∷ remarks) more e =
-    let parts = both_true (is_writable_remark r) (are_writable_remarks remarks) e in
+    let parts = and_parts (is_writable_remark r) (are_writable_remarks remarks) e in
     ap lines_of (append_assoc (remark_text r) (remarks_text remarks) more)
     ∙ comment_step r.marked r.text (remarks_text remarks ++ more) parts.0
     ∙ ap (λ (ls : List FreeLine). comment_line r ∷ ls) (comments_step remarks more parts.1)

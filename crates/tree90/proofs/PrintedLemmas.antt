@@ -3,13 +3,15 @@ use Rattle.std.proofs.Common.{◌≡◌, ℕ, true, not, ◌==◌, List, [], ◌
 use Rattle.std.specs.Prelude.{flat_map}
 use Rattle.std.specs.List.{list_all}
 use Rattle.std.proofs.lemmas.List.{append-nil}
+use Rattle.std.proofs.lemmas.Bool.{and_parts}
 use Rattle.text_base.specs.Chars.{is_name_byte, is_name}
 use Rattle.text_base.specs.Trees.{Expr, Action, name, assign}
+use Rattle.text_base.proofs.CharTests.{all_append}
 use Rattle.tree90.specs.Tree.{Remark, simple, Code, done, item, Declared, integer_object, FreeUnit, FreeProgram}
 use Rattle.tree90.specs.FreeText.{tokens, FreeStatement, header, implicit_none, save, declaration, executable, end, SpellsFree, free_header, free_implicit, free_save, free_integer, free_assign, free_stop, free_end, FreeLine, comment_lines, SpellsNext, SpellsParts, SpellsCode, SpellsUnit, SpellsUnits, SpellsText}
 use Rattle.tree90.specs.Printed.{line, remarks_text, expr_text, action_text, code_text, declared_text, unit_text, printed}
 use Rattle.tree90.specs.Proper.{IsWritableAction, writable_assign, writable_stop, are_writable_remarks, IsWritableCode, declared_name, IsWritableUnit, AreWritableUnits, IsWritable}
-use Rattle.tree90.proofs.TokenLemmas.{both_true, all_append, has_no_break, name_bytes_unbroken, NameWord, name_word, name_token, word_token, SumTokens, sum_tokens}
+use Rattle.tree90.proofs.TokenLemmas.{has_no_break, name_bytes_unbroken, NameWord, name_word, name_token, word_token, SumTokens, sum_tokens}
 use Rattle.tree90.proofs.CutLemmas.{lines_of, begins_word, line_step, comments_step}
 
 -- ---- statements
@@ -59,7 +61,7 @@ end_text x named = record {
 -- a name begins a word
 name_begins : (x rest : List ℕ) → NameWord x → begins_word (x ++ rest) ≡ true
 name_begins [] rest w = absurd (omega (arith, w.some))
-name_begins (c ∷ x) rest w = (both_true (is_name_byte c) (list_all is_name_byte x) w.bytes).0
+name_begins (c ∷ x) rest w = (and_parts (is_name_byte c) (list_all is_name_byte x) w.bytes).0
 
 -- an assignment
 assign_text : (x : List ℕ) (e : Expr) → is_name x ≡ true → SumTokens e → LineText (x ++ (codes " = " ++ expr_text e)) (executable (simple (assign (name x) e)))
@@ -95,7 +97,7 @@ declared_step : (ds : List Declared) (more : List ℕ) → list_all (λ d. is_na
     → SpellsParts (lines_of (flat_map declared_text ds ++ more)) [] (map declaration ds) (lines_of more)
 declared_step [] more named = (refl, refl)
 declared_step (integer_object x ∷ ds) more named =
-    let parts = both_true (is_name x) (list_all (λ d. is_name (declared_name d)) ds) named in
+    let parts = and_parts (is_name x) (list_all (λ d. is_name (declared_name d)) ds) named in
     let text : List ℕ = codes "INTEGER :: " ++ x in
     let after : List ℕ = flat_map declared_text ds ++ more in
     let first : SpellsNext (lines_of (line 1 text ++ after)) [] (declaration (integer_object x)) (lines_of after) =

@@ -4,33 +4,19 @@ use Rattle.std.specs.Prelude.{nat_le, slice_index, if◌then◌else◌}
 use Rattle.std.specs.List.{list_all}
 use Rattle.std.specs.Fmt.{decimal}
 use Rattle.std.specs.Str.Parse.{AllDigits}
-use Rattle.std.proofs.lemmas.Bool.{eqb-true, leb-true, le-leb, lt-leb, ne_eqb}
+use Rattle.std.proofs.lemmas.Bool.{eqb-true, leb-true, le-leb, lt-leb, ne_eqb, and_from, and_parts}
 use Rattle.std.proofs.lemmas.Fmt.{decimal_is_IsNumeral}
 use Rattle.std.proofs.lemmas.List.{append-nil}
 use Rattle.std.proofs.lemmas.Str.Parse.{digit_from_value}
 use Rattle.text_base.specs.Chars.{is_upper, is_digit, is_name_byte, is_name, to_upper}
 use Rattle.text_base.specs.Constants.{SpellsOperand, spells_constant, spells_variable, IsSign, is_plus, is_minus, IsOperator, is_add, is_subtract}
 use Rattle.text_base.specs.Trees.{UnaryOp, plus, minus, BinaryOp, add, subtract, Expr, unary, binary}
+use Rattle.text_base.proofs.CharTests.{all_append, digits_are_name_bytes}
 use Rattle.tree90.specs.FreeText.{is_word_byte, joins, attach, tokens, SpellsSum, sum_operand, sum_signed, sum_more}
 use Rattle.tree90.specs.Printed.{sign_text, operator_text, expr_text}
 use Rattle.tree90.specs.Proper.{IsOperand, operand_int, operand_name, IsSum, only_operand, signed_operand, sum_of}
 
 -- ---- tests
-
--- both of a pair of tests hold
-pub both_true : (a b : Bool) → (a && b) ≡ true → (a ≡ true) × (b ≡ true)
-both_true true b e = (refl, e)
-both_true false b e = absurd cc
-
--- a pair of tests that hold
-pub true_both : (a b : Bool) → a ≡ true → b ≡ true → (a && b) ≡ true
-true_both true b e f = f
-true_both false b e f = e
-
--- what holds of each element of two lists holds of each of both together
-pub all_append : (p : ℕ → Bool) (x y : List ℕ) → list_all p x ≡ true → list_all p y ≡ true → list_all p (x ++ y) ≡ true
-all_append p [] y e f = f
-all_append p (c ∷ x) y e f = let parts = both_true (p c) (list_all p x) e in true_both (p c) (list_all p (x ++ y)) parts.0 (all_append p x y parts.1 f)
 
 -- no byte is LF
 abbrev pub has_no_break : List ℕ → Bool
@@ -50,12 +36,12 @@ in_range c e = go (is_upper c) (is_digit c) (c == 95) refl refl refl e
   where
     go : (u d l : Bool) → is_upper c ≡ u → is_digit c ≡ d → (c == 95) ≡ l → (u || d || l) ≡ true → InRange c
     go true d l upper digit line e =
-        let parts = both_true (nat_le 65 c) (nat_le c 90) upper in
+        let parts = and_parts (nat_le 65 c) (nat_le c 90) upper in
         let low = leb-true 65 c parts.0 in
         let high = leb-true c 90 parts.1 in
         record { low = omega (arith, low); high = omega (arith, high); colon = λ is. omega (arith, low, is) }
     go false true l upper digit line e =
-        let parts = both_true (nat_le 48 c) (nat_le c 57) digit in
+        let parts = and_parts (nat_le 48 c) (nat_le c 57) digit in
         let low = leb-true 48 c parts.0 in
         let high = leb-true c 57 parts.1 in
         record { low = omega (arith, low); high = omega (arith, high); colon = λ is. omega (arith, high, is) }
@@ -93,8 +79,8 @@ name_byte c e =
 pub name_bytes_unbroken : (w : List ℕ) → list_all is_name_byte w ≡ true → has_no_break w ≡ true
 name_bytes_unbroken [] e = refl
 name_bytes_unbroken (c ∷ w) e =
-    let parts = both_true (is_name_byte c) (list_all is_name_byte w) e in
-    true_both (not (c == 10)) (has_no_break w) (name_byte c parts.0).unbroken (name_bytes_unbroken w parts.1)
+    let parts = and_parts (is_name_byte c) (list_all is_name_byte w) e in
+    and_from (not (c == 10)) (has_no_break w) (name_byte c parts.0).unbroken (name_bytes_unbroken w parts.1)
 
 -- ---- words
 
@@ -135,11 +121,11 @@ joins_so c d t n m =
 pub word_token : (w rest : List ℕ) → list_all is_name_byte w ≡ true → 0 < length w → Ends rest → tokens (w ++ rest) ≡ w ∷ tokens rest
 word_token [] rest bytes some ends = absurd (omega arith)
 word_token (c ∷ []) rest bytes some ends =
-    let n = name_byte c (both_true (is_name_byte c) (list_all is_name_byte []) bytes).0 in
+    let n = name_byte c (and_parts (is_name_byte c) (list_all is_name_byte []) bytes).0 in
     token_ends c rest n (joins_not c rest n ends)
 word_token (c ∷ d ∷ w) rest bytes some ends =
-    let first = both_true (is_name_byte c) (list_all is_name_byte (d ∷ w)) bytes in
-    let second = both_true (is_name_byte d) (list_all is_name_byte w) first.1 in
+    let first = and_parts (is_name_byte c) (list_all is_name_byte (d ∷ w)) bytes in
+    let second = and_parts (is_name_byte d) (list_all is_name_byte w) first.1 in
     let n = name_byte c first.0 in
     let m = name_byte d second.0 in
     token_goes_on c (d ∷ (w ++ rest)) n (joins_so c d (w ++ rest) n m)
@@ -155,7 +141,7 @@ pub record NameWord (x : List ℕ) : Type 0 where
 -- a name is a word
 pub name_word : (x : List ℕ) → is_name x ≡ true → NameWord x
 name_word x named = record {
-  bytes = (both_true (list_all is_name_byte x) (nat_le (length x) 31) (both_true (is_upper (slice_index x 0)) (list_all is_name_byte x && nat_le (length x) 31) named).1).0;
+  bytes = (and_parts (list_all is_name_byte x) (nat_le (length x) 31) (and_parts (is_upper (slice_index x 0)) (list_all is_name_byte x && nat_le (length x) 31) named).1).0;
   some = not_empty x named;
 }
   where
@@ -171,27 +157,12 @@ name_token x named =
 
 -- ---- operands
 
--- digits are bytes of names
-digit_is_name_byte : (c : ℕ) → is_digit c ≡ true → is_name_byte c ≡ true
-digit_is_name_byte c e = go (is_upper c)
-  where
-    go : (b : Bool) → (b || is_digit c || c == 95) ≡ true
-    go true = refl
-    go false = ap (λ d. d || c == 95) e
-
 -- digits by their values are digits
 digits_are : (ds : List ℕ) → AllDigits 10 ds → list_all is_digit ds ≡ true
 digits_are [] d = refl
 digits_are (c ∷ ds) d =
     let range = digit_from_value c d.0 in
-    true_both (is_digit c) (list_all is_digit ds) (true_both (nat_le 48 c) (nat_le c 57) (le-leb 48 c range.0) (le-leb c 57 range.1)) (digits_are ds d.1)
-
--- a text of digits has bytes of names alone
-digits_are_name_bytes : (ds : List ℕ) → list_all is_digit ds ≡ true → list_all is_name_byte ds ≡ true
-digits_are_name_bytes [] e = refl
-digits_are_name_bytes (c ∷ ds) e =
-    let parts = both_true (is_digit c) (list_all is_digit ds) e in
-    true_both (is_name_byte c) (list_all is_name_byte ds) (digit_is_name_byte c parts.0) (digits_are_name_bytes ds parts.1)
+    and_from (is_digit c) (list_all is_digit ds) (and_from (nat_le 48 c) (nat_le c 57) (le-leb 48 c range.0) (le-leb c 57 range.1)) (digits_are ds d.1)
 
 -- the text of an operand is a word that spells it
 record OperandWord (e : Expr) : Type 0 where
@@ -273,7 +244,7 @@ signed_tokens op a operand =
     record {
       list = (s.byte ∷ []) ∷ expr_text a ∷ [];
       spelled = sum_signed refl s.is o.spelled refl;
-      unbroken = ap (λ t. has_no_break (t ++ expr_text a)) s.text ∙ true_both (not (s.byte == 10)) (has_no_break (expr_text a)) s.unbroken (name_bytes_unbroken (expr_text a) o.word.bytes);
+      unbroken = ap (λ t. has_no_break (t ++ expr_text a)) s.text ∙ and_from (not (s.byte == 10)) (has_no_break (expr_text a)) s.unbroken (name_bytes_unbroken (expr_text a) o.word.bytes);
       read = λ rest ends.
           ap (λ t. tokens ((t ++ expr_text a) ++ rest)) s.text
           ∙ s.read (expr_text a ++ rest)
@@ -288,7 +259,7 @@ more_tokens op a b left operand =
     let behind : List ℕ = 32 ∷ q.byte ∷ 32 ∷ expr_text b in
     let whole : expr_text (binary op a b) ≡ expr_text a ++ behind =
     between (expr_text a) (operator_text op) (expr_text b) ∙ ap (λ (t : List ℕ). expr_text a ++ (32 ∷ (t ++ (32 ∷ expr_text b)))) q.text in
-    let unbroken = true_both (not (q.byte == 10)) (has_no_break (expr_text b)) q.unbroken (name_bytes_unbroken (expr_text b) o.word.bytes) in
+    let unbroken = and_from (not (q.byte == 10)) (has_no_break (expr_text b)) q.unbroken (name_bytes_unbroken (expr_text b) o.word.bytes) in
     record {
       list = left.list ++ (q.byte ∷ []) ∷ expr_text b ∷ [];
       spelled = sum_more refl q.is left.spelled o.spelled refl;

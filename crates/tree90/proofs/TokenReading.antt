@@ -1,38 +1,25 @@
 -- The tokens of a statement have at most one reading.
-use Rattle.std.proofs.Common.{◌≡◌, ℕ, zero, suc, ◌<◌, ◌==◌, Bool, true, false, ◌&&◌, List, [], ◌∷◌, ◌++◌, length, drop, pos, refl, sym, ap, ◌∙◌, subst, arith, length-append}
+use Rattle.std.proofs.Common.{◌≡◌, ℕ, zero, suc, ◌<◌, ◌==◌, true, ◌&&◌, List, [], ◌∷◌, ◌++◌, length, drop, pos, refl, sym, ap, ◌∙◌, subst, arith, length-append}
 use Rattle.std.specs.Prelude.{nat_le, slice_index, if◌then◌else◌}
 use Rattle.std.specs.List.{list_all}
 use Rattle.std.specs.Str.Parse.{digits_value}
-use Rattle.std.proofs.lemmas.Bool.{leb-true}
+use Rattle.std.proofs.lemmas.Bool.{and_parts}
 use Rattle.text_base.specs.Chars.{is_upper, is_digit, is_name_byte, is_name}
 use Rattle.text_base.specs.Constants.{SpellsOperand, spells_constant, spells_variable, IsSign, is_plus, is_minus, IsOperator, is_add, is_subtract}
 use Rattle.text_base.specs.Trees.{UnaryOp, plus, minus, BinaryOp, add, subtract, Expr, int, name, unary, binary, assign, stop}
+use Rattle.text_base.proofs.CharTests.{digit_is_no_letter}
 use Rattle.tree90.specs.Tree.{simple, integer_object}
 use Rattle.tree90.specs.FreeText.{SpellsSum, sum_operand, sum_signed, sum_more, FreeStatement, header, implicit_none, save, declaration, executable, end, SpellsFree, free_header, free_implicit, free_save, free_integer, free_assign, free_stop, free_end, free_end_together}
 use Rattle.tree90.proofs.ListLemmas.{same_ends}
 
--- both sides of a test that holds hold
-both_true : (a b : Bool) → (a && b) ≡ true → (a ≡ true) × (b ≡ true)
-both_true true b e = (refl, e)
-both_true false b e = absurd cc
-
 -- ---- operands
-
--- a digit is no letter
-digit_is_no_letter : (c : ℕ) → is_digit c ≡ true → is_upper c ≡ true → ⊥
-digit_is_no_letter c digit upper =
-    let d = both_true (nat_le 48 c) (nat_le c 57) digit in
-    let l = both_true (nat_le 65 c) (nat_le c 90) upper in
-    let low = leb-true c 57 d.1 in
-    let high = leb-true 65 c l.0 in
-    omega (arith, low, high)
 
 -- a name begins with a letter, so it is no list of digits
 digits_are_no_name : (w : List ℕ) → list_all is_digit w ≡ true → is_name w ≡ true → ⊥
 digits_are_no_name [] digits named = cc
 digits_are_no_name (c ∷ w) digits named =
-    let first = both_true (is_digit c) (list_all is_digit w) digits in
-    let letter = both_true (is_upper c) (list_all is_name_byte (c ∷ w) && nat_le (length (c ∷ w)) 31) named in
+    let first = and_parts (is_digit c) (list_all is_digit w) digits in
+    let letter = and_parts (is_upper c) (list_all is_name_byte (c ∷ w) && nat_le (length (c ∷ w)) 31) named in
     digit_is_no_letter c first.0 letter.0
 
 -- a word is one operand at most

@@ -1,0 +1,173 @@
+-- What is read of a number and of a mark, and where no complex constant can be read.
+use Rattle.std.proofs.Common.{◌≡◌, ℕ, suc, ◌≤◌, ◌==◌, Bool, true, false, List, [], ◌∷◌, map, length, Option, Some, None, refl, sym, ap, ◌∙◌, subst, arith}
+use Rattle.std.specs.Prelude.{if◌then◌else◌}
+use Rattle.std.specs.Option.{option_map, option_and_then, option_or}
+use Rattle.std.proofs.lemmas.Bool.{eqb-true}
+use Rattle.tree77.specs.Syntax.{BinaryOp, add, subtract, Expr}
+use Rattle.tree77.specs.Expressions as symbol
+use Rattle.tree77.specs.Expressions.{Symbol, is_sum}
+use Rattle.tree77.specs.Tokens.{Token, TokenKind, run, digits, kept, mark}
+use Rattle.tree77.specs.Items.{Item, constant, operator, comma, symbol_of}
+use Rattle.tree77.proofs.Optional.{mapped}
+use Rattle.expr77.specs.Building.{grouping, Level, open_level, build_from}
+use Rattle.expr77.specs.ItemReading.{first_or_0, behind_mark, or_all, behind_sign, run_here, digits_here, behind_exponent, behind_exponent_run, Number, whole, real, behind_digits, read_number, behind_part, behind_complex, behind_hollerith, Stand, at_argument, at_operand, item_of_number, found_number, or_found, point_at, read_mark, read_token, read_item, stand_behind, read_items}
+use Rattle.expr77.proofs.ItemFits.{no_comma, no_signed_comma}
+use Rattle.expr77.proofs.NumberOnly.{marked, run_token, number_token}
+
+-- ---- a number or a mark is read as an item
+
+-- a number that no run follows is no Hollerith constant
+no_hollerith : (d : List ℕ) (ts : List Token) (n : Number) (rest : List Token) → behind_digits d ts (behind_exponent ts) (behind_mark 46 ts) ≡ (n, rest) → run_here rest ≡ None → behind_hollerith ts ≡ None
+no_hollerith d [] n rest e no_run = refl
+no_hollerith d (t ∷ ts) n rest e no_run = go t.kind t.text e
+  where
+    behind_h : (text : List ℕ) → behind_exponent_run (72 ∷ text) ts ≡ None
+    behind_h [] = refl
+    behind_h (c ∷ text) = refl
+
+    at : (c : ℕ) (text : List ℕ) (b : Bool) → (c == 72) ≡ b → behind_digits d (run_token (c ∷ text) ∷ ts) (behind_exponent_run (c ∷ text) ts) None ≡ (n, rest) → (if b then Some ts else None) ≡ None
+    at c text false is e = refl
+    at c text true is e =
+        let h : behind_exponent_run (c ∷ text) ts ≡ None = ap (λ c. behind_exponent_run (c ∷ text) ts) (eqb-true c 72 is) ∙ behind_h text in
+        let found : ◌≡◌ {A = Number × List Token} (whole d, run_token (c ∷ text) ∷ ts) (n, rest) = rw h at e in
+        let same : run_token (c ∷ text) ∷ ts ≡ rest = ap (λ (p : Number × List Token). p.1) found in
+        let none : ◌≡◌ {A = Option (List ℕ × List Token)} (Some (c ∷ text, ts)) None = ap run_here same ∙ no_run in
+        absurd cc
+
+    go : (kind : TokenKind) (text : List ℕ) → behind_digits d (record { kind = kind; text = text } ∷ ts) (behind_exponent (record { kind = kind; text = text } ∷ ts)) (behind_mark 46 (record { kind = kind; text = text } ∷ ts)) ≡ (n, rest)
+        → behind_hollerith (record { kind = kind; text = text } ∷ ts) ≡ None
+    go run [] e = refl
+    go run (c ∷ text) e = at c text (c == 72) refl e
+    go digits text e = refl
+    go kept text e = refl
+    go mark text e = refl
+
+-- a number is read as an item, which is an integer or another constant
+pub number_item : (s : Stand) (tokens : List Token) (n : Number) (rest : List Token) → read_number tokens ≡ Some (n, rest) → run_here rest ≡ None → read_item s tokens ≡ Some (item_of_number n, rest)
+unfolding read_item read_number
+number_item s [] n rest e no_run = absurd cc
+number_item s (t ∷ ts) n rest e no_run = go t.kind t.text e
+  where
+    point : (text : List ℕ) (d : Option (List ℕ × List Token)) → digits_here ts ≡ d → option_map {U = Number × List Token} (λ d. (real, or_all d.1 (behind_exponent d.1))) d ≡ Some (n, rest)
+        → read_number (record { kind = mark; text = text } ∷ ts) ≡ Some (n, rest) → point_at (record { kind = mark; text = text } ∷ ts) ts d ≡ Some (item_of_number n, rest)
+    point text None is e all = absurd cc
+    point text (Some d) is e all = ap (option_map (λ n. (item_of_number n.0, n.1))) all
+
+    at : (text : List ℕ) (b : Bool) → (first_or_0 text == 46) ≡ b → option_map {U = Number × List Token} (λ d. (real, or_all d.1 (behind_exponent d.1))) (option_and_then digits_here (if b then Some ts else None)) ≡ Some (n, rest)
+        → read_number (record { kind = mark; text = text } ∷ ts) ≡ Some (n, rest) → read_mark s (first_or_0 text) (record { kind = mark; text = text } ∷ ts) ts ≡ Some (item_of_number n, rest)
+    at text false is e all = absurd cc
+    at text true is e all = ap (λ c. read_mark s c (record { kind = mark; text = text } ∷ ts) ts) (eqb-true (first_or_0 text) 46 is) ∙ point text (digits_here ts) refl e all
+
+    go : (kind : TokenKind) (text : List ℕ) → read_number (record { kind = kind; text = text } ∷ ts) ≡ Some (n, rest)
+        → read_token s kind text (record { kind = kind; text = text } ∷ ts) ts ≡ Some (item_of_number n, rest)
+    go run text e = absurd cc
+    go digits text e =
+        let found : behind_digits text ts (behind_exponent ts) (behind_mark 46 ts) ≡ (n, rest) = cc in
+        ap (λ h. or_found h constant (found_number (number_token text ∷ ts))) (no_hollerith text ts n rest found no_run) ∙ ap (option_map (λ n. (item_of_number n.0, n.1))) e
+    go kept text e = absurd cc
+    go mark text e = at text (first_or_0 text == 46) refl e e
+
+-- a mark that is an item by itself
+pub mark_item : (c : ℕ) (i : Item) (s : Stand) (tokens rest : List Token) → (0 == c) ≡ false → ((ts more : List Token) → read_mark s c ts more ≡ Some (i, more)) → behind_mark c tokens ≡ Some rest
+    → (read_item s tokens ≡ Some (i, rest)) × (run_here tokens ≡ None)
+unfolding read_item
+mark_item c i s [] rest apart is e = absurd cc
+mark_item c i s (t ∷ ts) rest apart is e = go t.kind t.text e
+  where
+    none : (if 0 == c then Some ts else None) ≡ Some rest → ⊥
+    none e = let refused : None ≡ Some rest = rw apart at e in absurd cc
+
+    at : (text : List ℕ) (b : Bool) → (first_or_0 text == c) ≡ b → (if b then Some ts else None) ≡ Some rest → read_mark s (first_or_0 text) (record { kind = mark; text = text } ∷ ts) ts ≡ Some (i, rest)
+    at text false same e = absurd cc
+    at text true same e =
+        let left : ts ≡ rest = cc in
+        ap (λ c. read_mark s c (record { kind = mark; text = text } ∷ ts) ts) (eqb-true (first_or_0 text) c same) ∙ is (record { kind = mark; text = text } ∷ ts) ts ∙ ap (λ (m : List Token). Some (i, m)) left
+
+    go : (kind : TokenKind) (text : List ℕ) → behind_mark c (record { kind = kind; text = text } ∷ ts) ≡ Some rest
+        → (read_token s kind text (record { kind = kind; text = text } ∷ ts) ts ≡ Some (i, rest)) × (run_here (record { kind = kind; text = text } ∷ ts) ≡ None)
+    go run text e = absurd (none e)
+    go digits text e = absurd (none e)
+    go kept text e = absurd (none e)
+    go mark text e = (at text (first_or_0 text == c) refl e, refl)
+
+-- ---- no complex constant begins with a parenthesis that is open
+
+-- after the first item the others are read
+pub unrolled : (k : ℕ) (s : Stand) (tokens rest : List Token) (i : Item) → read_item s tokens ≡ Some (i, rest) → read_items (suc k) s tokens ≡ option_map (λ is. i ∷ is) (read_items k (stand_behind i) rest)
+unfolding read_item
+unrolled k s [] rest i e = absurd cc
+unrolled k s (t ∷ ts) rest i e = ap (option_and_then (λ (p : Item × List Token). option_map (λ is. p.0 ∷ is) (read_items k (stand_behind p.0) p.1))) e
+
+-- the item stands for an operand
+record IsOperandItem (i : Item) : Type 0 where
+  of : Expr
+  is : symbol_of i ≡ symbol.operand of
+
+-- a number stands for an operand
+number_symbol : (n : Number) → IsOperandItem (item_of_number n)
+number_symbol (whole d) = record { of = _; is = refl }
+number_symbol real = record { of = _; is = refl }
+
+-- the tokens are read as the items, with as many turns as there are tokens, or more
+abbrev pub AreRead : Stand → List Token → List Item → Type 0
+AreRead s tokens items = (n : ℕ) → length tokens ≤ n → read_items n s tokens ≡ Some items
+
+-- an item, a comma and others
+record IsPair (i : Item) (items : List Item) : Type 0 where
+  others : List Item
+  is : items ≡ i ∷ comma ∷ others
+
+-- what begins with an item and a comma
+pair_read : (i : Item) (items : List Item) (o : Option (List Item)) → option_map (λ is. i ∷ is) (option_map (λ is. comma ∷ is) o) ≡ Some items → IsPair i items
+pair_read i items None e = absurd cc
+pair_read i items (Some others) e = record { others = others; is = cc }
+
+-- a number and a comma aren't read there
+no_pair : (levels : List Level) (before : List Symbol) (tokens rest more : List Token) (items : List Item) (x : Expr) (n : Number) → AreRead at_argument tokens items
+    → build_from (open_level levels before grouping) (map symbol_of items) ≡ Some x → read_number (behind_sign tokens) ≡ Some (n, rest) → behind_mark 44 rest ≡ Some more → ⊥
+no_pair levels before tokens rest more items x n read built number e = signs (behind_mark 43 tokens) (behind_mark 45 tokens) refl refl number
+  where
+    operand : IsOperandItem (item_of_number n)
+    operand = number_symbol n
+
+    comma_there : (read_item (stand_behind (item_of_number n)) rest ≡ Some (comma, more)) × (run_here rest ≡ None)
+    comma_there = mark_item 44 comma (stand_behind (item_of_number n)) rest more refl (λ ts more. refl) e
+
+    -- the items of a number and a comma
+    pair : (k : ℕ) (s : Stand) (ts : List Token) → read_number ts ≡ Some (n, rest) → read_items (suc (suc k)) s ts ≡ option_map (λ is. item_of_number n ∷ is) (option_map (λ is. comma ∷ is) (read_items k at_argument more))
+    pair k s ts number =
+        unrolled (suc k) s ts rest (item_of_number n) (number_item s ts n rest number comma_there.1)
+        ∙ ap (option_map (λ is. item_of_number n ∷ is)) (unrolled k (stand_behind (item_of_number n)) rest more comma comma_there.0)
+
+    unsigned : read_number tokens ≡ Some (n, rest) → ⊥
+    unsigned number =
+        let p = pair_read (item_of_number n) items (read_items (length tokens) at_argument more) (sym (pair (length tokens) at_argument tokens number) ∙ read (suc (suc (length tokens))) (omega arith)) in
+        no_comma levels before (item_of_number n) x operand.of p.others operand.is (subst (λ (is : List Item). build_from (open_level levels before grouping) (map symbol_of is) ≡ Some x) p.is built)
+
+    signed : (o : BinaryOp) (ts : List Token) → is_sum o ≡ true → read_item at_argument tokens ≡ Some (operator o, ts) → read_number ts ≡ Some (n, rest) → ⊥
+    signed o ts sign first number =
+        let signs = unrolled (suc (suc (length tokens))) at_argument tokens ts (operator o) first in
+        let z = mapped (read_items (suc (suc (length tokens))) at_operand ts) (λ is. operator o ∷ is) items (sym signs ∙ read (suc (suc (suc (length tokens)))) (omega arith)) in
+        let p = pair_read (item_of_number n) z.from (read_items (length tokens) at_argument more) (sym (pair (length tokens) at_operand ts number) ∙ z.was) in
+        let is : items ≡ operator o ∷ item_of_number n ∷ comma ∷ p.others = sym z.is ∙ ap (λ (is : List Item). operator o ∷ is) p.is in
+        no_signed_comma levels before (item_of_number n) o x operand.of p.others sign operand.is
+        (subst (λ (is : List Item). build_from (open_level levels before grouping) (map symbol_of is) ≡ Some x) is built)
+
+    signs : (p q : Option (List Token)) → behind_mark 43 tokens ≡ p → behind_mark 45 tokens ≡ q → read_number (or_all tokens (option_or p q)) ≡ Some (n, rest) → ⊥
+    signs None None plus minus number = unsigned number
+    signs None (Some after) plus minus number = signed subtract after refl (mark_item 45 (operator subtract) at_argument tokens after refl (λ ts more. refl) minus).0 number
+    signs (Some after) q plus minus number = signed add after refl (mark_item 43 (operator add) at_argument tokens after refl (λ ts more. refl) plus).0 number
+
+-- where the items behind an open parenthesis are accepted, and it belongs to no name, no complex constant can be read
+pub no_complex : (levels : List Level) (before : List Symbol) (tokens : List Token) (items : List Item) (x : Expr) → AreRead at_argument tokens items
+    → build_from (open_level levels before grouping) (map symbol_of items) ≡ Some x → behind_complex (marked 40 ∷ tokens) ≡ None
+unfolding behind_complex
+no_complex levels before tokens items x read built = ap (λ o. option_and_then (behind_mark 41) (option_and_then behind_part o)) (part (read_number (behind_sign tokens)) refl)
+  where
+    comma_at : (n : Number) (rest : List Token) (o : Option (List Token)) → read_number (behind_sign tokens) ≡ Some (n, rest) → behind_mark 44 rest ≡ o → o ≡ None
+    comma_at n rest None number e = refl
+    comma_at n rest (Some more) number e = absurd (no_pair levels before tokens rest more items x n read built number e)
+
+    part : (o : Option (Number × List Token)) → read_number (behind_sign tokens) ≡ o → option_and_then (behind_mark 44) (option_map (λ n. n.1) o) ≡ None
+    part None number = refl
+    part (Some (n, rest)) number = comma_at n rest (behind_mark 44 rest) number refl

@@ -1,0 +1,7 @@
+use Rattle.std.proofs.Common.{◌≡◌, ◌≤◌, drop}
+use Rattle.tree77.specs.Items.{decimal_from, decimal}
+use Rattle.expr77.proofs.part.small_value.Given as goal
+
+-- what is left goes on from the value so far
+abbrev pub invariant-loop-digit : goal.invariant-loop-digit
+invariant-loop-digit l = (l.value ≤ 2147483647) × (decimal_from l.value (drop l.digit-index l.digits) ≡ decimal l.digits)

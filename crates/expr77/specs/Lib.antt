@@ -1,0 +1,9 @@
+pub mod Grouping
+pub mod Building
+pub mod ItemReading
+pub mod Gathering
+pub mod Outcome
+pub mod Parsing
+pub mod Views
+pub mod BuilderViews
+pub mod Groups

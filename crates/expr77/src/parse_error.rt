@@ -1,0 +1,23 @@
+// Why tokens are no expression.
+ghost use Rattle.std.specs.Prelude.{◌≡◌};
+ghost use Rattle.expr77.specs.declared.parse_error.ParseError.TheVariants.{Memory};
+
+use std::alloc::AllocError;
+use text_base::Refusals;
+
+/// Why tokens aren't read as an expression: they are refused, or memory is wanting.
+#[derive(Debug, Drop)]
+pub enum ParseError {
+    /// The tokens are refused. The list has one refusal.
+    Refused(Refusals),
+    /// Want of memory. Nothing is known of the tokens.
+    Memory,
+}
+
+impl From<AllocError> for ParseError {
+    ghost from_gives = { λ _ e. e ≡ Memory };
+
+    fn from(_error: AllocError) -> ParseError {
+        ParseError::Memory
+    }
+}

@@ -1,0 +1,117 @@
+// Parts of expressions that are refused.
+ghost use Rattle.std.specs.Prelude.{◌≡◌, ◌∷◌, [], pos, take, Some, None, if◌then◌else◌};
+ghost use Rattle.std.specs.Option.{option_map};
+ghost use Rattle.tree77.specs.Items as plain;
+ghost use Rattle.expr77.specs.Gathering as form;
+ghost use Rattle.expr77.specs.Views.{item_of, part_of, parts_of};
+ghost use Rattle.text_base.specs.declared.refusal.Cause.TheVariants.{Unsupported};
+
+use crate::item::Item;
+use text_base::Cause;
+
+/// A part of an expression that is refused: why, and the name that the refusal shows.
+#[derive(Clone, Copy)]
+pub struct Part<'a> {
+    pub cause: Cause,
+    pub shown: &'a [u8],
+}
+
+/// The greatest integer constant.
+const GREATEST: u64 = 2_147_483_647;
+
+/// The length of the longest name.
+const LONGEST_NAME: usize = 31;
+
+/// How deep parentheses may nest.
+const DEEPEST: usize = 200;
+
+/// The value of an integer constant (X3.9 section 4.3.1), where it isn't too great.
+pub fn small_value(digits: &[u8]) -> Option<i32>
+    ensures { result ≡ (if plain.is_small digits.now then Some (pos (plain.decimal digits.now)) else None) }
+{
+    let mut value: u64 = 0;
+    for digit in digits {
+        value = 10 * value + u64::from(digit.saturating_sub(48));
+        if value > GREATEST {
+            return None;
+        }
+    }
+    Some(value as i32)
+}
+
+/// The first characters of a text.
+pub fn first(text: &[u8], count: usize) -> &[u8]
+    ensures { result.now ≡ take count text.now }
+{
+    let (shown, _) = text.split_at(text.len().min(count));
+    shown
+}
+
+fn unsupported<'a>(word: &'a str) -> Option<Part<'a>>
+    ensures { parts_of result ≡ record { cause = Unsupported; shown = word.now } ∷ [] }
+{
+    Some(Part {
+        cause: Cause::Unsupported,
+        shown: word.as_bytes(),
+    })
+}
+
+/// The refused part that an item is, where so many parentheses are open before it.
+pub fn refused_part<'a>(depth: usize, item: &Item<'a>) -> Option<Part<'a>>
+    ensures { parts_of result ≡ plain.part_of depth (item_of item.now) }
+{
+    match item {
+        Item::Integer(digits) => {
+            if small_value(digits).is_some() {
+                return None;
+            }
+            Some(Part {
+                cause: Cause::ConstantRange,
+                shown: first(digits, 12),
+            })
+        }
+        Item::Constant => unsupported("CONSTANT"),
+        Item::Alternate => unsupported("RETURN"),
+        Item::Name(word) => {
+            if word.as_slice().len() <= LONGEST_NAME {
+                return None;
+            }
+            Some(Part {
+                cause: Cause::NameTooLong,
+                shown: first(word.as_slice(), LONGEST_NAME),
+            })
+        }
+        Item::Open => {
+            if depth < DEEPEST {
+                return None;
+            }
+            unsupported("DEPTH")
+        }
+        Item::Logical(_) => None,
+        Item::Characters(_) => None,
+        Item::Operator(_) => None,
+        Item::Not => None,
+        Item::Close => None,
+        Item::Comma => None,
+        Item::Colon => None,
+    }
+}
+
+/// The part of the lower cause; the first of equal ones.
+pub fn lower_part<'a>(kept: Option<Part<'a>>, part: Option<Part<'a>>) -> Option<Part<'a>>
+    ensures { option_map part_of result ≡ form.keep (option_map part_of kept.entry) (parts_of part.entry) }
+{
+    let Some(part) = part else {
+        return kept;
+    };
+    match kept {
+        None => Some(part),
+        Some(first) => {
+            if part.cause.number() < first.cause.number() {
+                Some(part)
+            } else {
+                Some(first)
+            }
+        }
+    }
+}
