@@ -9,15 +9,16 @@ use Rattle.text_base.specs.LineRefusals.{Fault, Begun, begun_by, long_fault, fil
 use Rattle.text_base.specs.declared.refusal.Cause.TheVariants.{BadLabelField, TooManyContinuations, BadCharacter}
 use Rattle.text_base.specs.declared.refusal.Refusal.{Refusal}
 use Rattle.card_reader.specs.declared.check.State as code
-use Rattle.card_reader.specs.Views.{state_of}
-use Rattle.card_reader.specs.Reading.{State, read_character, read_initial, read_place, read_fault, state_new, state_more, state_after, read_refusals}
+use Rattle.card_reader.specs.Check.{state_of}
+use Rattle.text_base.specs.declared.limits.TheConstants.{MOST_CONTINUED}
+use Rattle.card_reader.specs.Check.{State, read_character, read_initial, read_place, read_fault, state_new, state_more, state_after, read_refusals}
 
 -- the marks of what follows some characters are those from where the characters end
 marks_behind : (s : Scan) (t u : List ℕ) → drop (length t) (marks_from s (t ++ u)) ≡ marks_from (scan_all s t) u
 marks_behind s [] u = refl
 marks_behind s (c ∷ t) u = marks_behind (scan_after s c) t u
 
-scan_append : (s : Scan) (t u : List ℕ) → scan_all s (t ++ u) ≡ scan_all (scan_all s t) u
+pub scan_append : (s : Scan) (t u : List ℕ) → scan_all s (t ++ u) ≡ scan_all (scan_all s t) u
 scan_append s [] u = refl
 scan_append s (c ∷ t) u = scan_append (scan_after s c) t u
 
@@ -34,7 +35,7 @@ initial_same l = λ i. option_or (long_fault l) (option_or (label_fault l) (char
 
 place_same : (b : Option Begun) (l : List ℕ) → place_fault b l ≡ read_place (option_map state_as b) l
 place_same None l = refl
-place_same (Some b) l = λ i. if b.continued == 99 then Some (TooManyContinuations, decimal 6) else character_same b l i
+place_same (Some b) l = λ i. if b.continued == MOST_CONTINUED then Some (TooManyContinuations, decimal 6) else character_same b l i
 
 fault_same : (b : Option Begun) (l : List ℕ) → line_fault b l ≡ read_fault (option_map state_as b) l
 fault_same b l = λ i. if is_comment l then long_fault l else

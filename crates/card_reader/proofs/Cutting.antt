@@ -1,9 +1,10 @@
 -- Lines as they are cut off, and the field of a statement.
 use Rattle.std.proofs.Common.{◌≡◌, ℕ, suc, ◌+◌, ◌-◌, ◌<◌, ◌≤◌, ◌==◌, Bool, true, false, not, cond, unwrap_or, Some, None, List, [], ◌∷◌, ◌++◌, length, take, drop, replicate, refl, ap, arith, nat_lt}
-use Rattle.std.proofs.lemmas.List.{take-take}
-use Rattle.std.proofs.lemmas.List.Sums.{prefix_len-le-length}
+use Rattle.std.proofs.lemmas.List.{drop-replicate}
+use Rattle.std.proofs.lemmas.List.Elements.{All-take, All-drop}
+use Rattle.std.proofs.lemmas.List.Sums.{prefix_len-le-length, AllPass-from_list_all, list_all-from_AllPass}
 use Rattle.std.proofs.lemmas.Bool.Decides.{nat_tests}
-use Rattle.std.specs.List.{position, position_or_len}
+use Rattle.std.specs.List.{list_all, position, position_or_len}
 use Rattle.text_base.specs.Lines.{cut, with_first}
 
 -- a byte that ends a line
@@ -42,6 +43,31 @@ cut_first [] some = absurd (omega arith)
 cut_first (c ∷ []) some = cut_one c (c == 10)
 cut_first (c ∷ (d ∷ t)) some = cut_more c (d ∷ t) (position_or_len is_feed (d ∷ t)) (cut_first (d ∷ t) (omega arith)) (c == 10)
 
--- a text cut at 66 and filled up, where it was cut at 66 before
-pub padded : (all items : List ℕ) (n : ℕ) → items ≡ take 66 all → n ≡ length (take 66 all) → take 66 items ++ replicate (66 - n) 32 ≡ take 66 all ++ replicate (66 - length (take 66 all)) 32
-padded all items n same size = rw (same, size, take-take 66 66 all (omega arith)) refl
+-- no byte of a text ends a line
+abbrev pub IsFeedless : List ℕ → Type 0
+IsFeedless l = list_all (λ c. not (c == 10)) l ≡ true
+
+-- what stands before the first end of a line has none
+pub before_feed : (l : List ℕ) → IsFeedless (take (position_or_len is_feed l) l)
+before_feed [] = refl
+before_feed (c ∷ t) = go (c == 10) refl (before_feed t)
+  where
+    go : (b : Bool) → (c == 10) ≡ b → IsFeedless (take (position_or_len is_feed t) t) → IsFeedless (take (cond (not b) (1 + position_or_len is_feed t) 0) (c ∷ t))
+    go true e rest = refl
+    go false e rest = let next : 1 + position_or_len is_feed t ≡ suc (position_or_len is_feed t) = omega arith in rw (next, e) rest
+
+-- a first part of such a text is one
+pub feedless_take : (n : ℕ) (l : List ℕ) → IsFeedless l → IsFeedless (take n l)
+feedless_take n l e =
+    let p : ℕ → Bool = λ c. not (c == 10) in
+    list_all-from_AllPass p (take n l) (All-take (λ c. p c ≡ true) n l (AllPass-from_list_all p l e))
+
+-- what follows some bytes of such a text is one
+pub feedless_drop : (n : ℕ) (l : List ℕ) → IsFeedless l → IsFeedless (drop n l)
+feedless_drop n l e =
+    let p : ℕ → Bool = λ c. not (c == 10) in
+    list_all-from_AllPass p (drop n l) (All-drop (λ c. p c ≡ true) n l (AllPass-from_list_all p l e))
+
+-- blanks behind which a text was put
+pub padded : (text : List ℕ) (n : ℕ) → text ++ drop (length text) (replicate n 32) ≡ text ++ replicate (n - length text) 32
+padded text n = ap (λ more. text ++ more) (drop-replicate (length text) n 32)

@@ -4,8 +4,33 @@ use Rattle.std.specs.Prelude.{if◌then◌else◌}
 use Rattle.std.specs.List.{take_while, prefix_len}
 use Rattle.text_base.specs.Lines.{is_comment, is_initial, label_of, statement_field}
 use Rattle.text_base.specs.Kept.{kept}
+use Rattle.text_base.specs.declared.refusal.Place.{Place}
 use Rattle.text_base.specs.Cards.{Card, statement_lines, grouped, fields, card_of, cards_of}
-use Rattle.card_reader.specs.Reading.{following, card_from, read_statements}
+
+-- ---- statements, before the lines that are left
+
+-- columns 7 to 72 of the continuation lines before the next initial line
+abbrev pub following : List (List ℕ) → List ℕ
+following [] = []
+following (l ∷ ls) = if is_comment l then following ls else (if is_initial l then [] else statement_field l ++ following ls)
+
+-- the statement of an initial line, before the lines that are left
+abbrev pub card_from : Place → List ℕ → List (List ℕ) → Card
+card_from place l ls =
+    let text = statement_field l ++ following ls in
+    record { label = label_of l; text = text; kept = kept (label_of l) text; place = place }
+
+-- the line begins a statement
+abbrev pub begins : List ℕ → Bool
+begins l = not (is_comment l) && is_initial l
+
+-- the statements among the lines that are left
+abbrev pub read_statements : ℕ → ℕ → List (List ℕ) → List Card
+read_statements file number [] = []
+read_statements file number (l ∷ ls) =
+    if begins l then card_from (record { file = file; line = number }) l ls ∷ read_statements file (number + 1) ls else read_statements file (number + 1) ls
+
+-- ---- what is read
 
 abbrev is_continuation : ℕ × List ℕ → Bool
 is_continuation q = not (is_initial q.1)

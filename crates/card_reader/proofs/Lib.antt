@@ -1,3 +1,13 @@
+pub mod CommentLaw
+pub mod LastDigits
+pub mod ScanSteps
+pub mod FormatFlag
+pub mod PlainText
+pub mod KeptLaw
+pub mod CardSizes
 pub mod Cutting
-pub mod Grouping
 pub mod Checking
+pub mod Grouping
+pub mod Gathering
+pub mod Waiting
+pub mod Blanks

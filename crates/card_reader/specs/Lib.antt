@@ -1,3 +1,6 @@
-pub mod Reading
-pub mod Views
-pub mod Refused
+pub mod Deck
+pub mod Scan
+pub mod CardsError
+pub mod Fault
+pub mod Check
+pub mod Reader

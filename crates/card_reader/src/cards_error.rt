@@ -4,13 +4,16 @@ ghost use Rattle.card_reader.specs.declared.cards_error.CardsError.TheVariants.{
 
 use std::alloc::AllocError;
 use text_base::Refusals;
+use thiserror::Error;
 
 /// Why a file isn't read into statements (X3.9 section 3): it is refused, or memory is wanting.
-#[derive(Debug, Drop)]
+#[derive(Debug, Drop, Error)]
 pub enum CardsError {
     /// The file is refused. The list says where and why.
+    #[error("the file is refused")]
     Refused(Refusals),
     /// Want of memory. Nothing is known of the file.
+    #[error("memory is wanting")]
     Memory,
 }
 

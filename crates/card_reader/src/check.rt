@@ -1,22 +1,19 @@
 // What is refused of the lines of a file.
-ghost use Rattle.std.specs.Prelude.{◌≡◌, ◌<◌, ◌≤◌, ◌++◌, None, IfOk, OnOk, length, IfSome};
+ghost use Rattle.std.specs.Prelude.{◌≡◌, ◌<◌, None, Some, IfOk, IfErr, IfSome};
 ghost use Rattle.std.specs.Option.{option_map};
-ghost use Rattle.text_base.specs.Lines.{lines};
-ghost use Rattle.text_base.specs.LineRefusals.{refused_at, line_refusals};
-ghost use Rattle.card_reader.specs.Reading as reading;
-ghost use Rattle.card_reader.specs.Views.{fault_of, scan_of, state_of};
+ghost use Rattle.text_base.specs.Kept.{scan_start, scan_all};
+ghost use Rattle.text_base.specs.Lines.{label_of, statement_field};
+ghost use Rattle.text_base.specs.LineRefusals.{is_bad};
+ghost use Rattle.card_reader.specs.Check as reading;
+ghost use Rattle.card_reader.specs.Check.{state_of};
+ghost use Rattle.card_reader.specs.Fault.{fault_of, fault_in};
+ghost use Rattle.card_reader.specs.Scan.{scan_of};
 
-use crate::columns::{column_6, is_comment, is_initial, label_of, statement_field};
-use crate::fault::{Fault, column_fault, filled_column, label_fault, long_fault, refusal_at};
-use crate::kept::{after_field, bad_in_field, is_bad};
-use crate::lines::next_line;
+use crate::columns::{FIELD, column_6, is_comment, is_initial, label_of, statement_text};
+use crate::fault::{Fault, filled_fault, label_fault, long_fault};
 use crate::scan::Scan;
-use sqlite_items::Items;
-use std::alloc::{AllocError, Global};
-use text_base::{Cause, Place, Refusals};
-
-/// The 100th continuation line of a statement is refused.
-const MAX_CONTINUATIONS: u32 = 99;
+use text_base::Cause;
+use text_base::limits::MOST_CONTINUED;
 
 /// The lines so far of a statement: what their characters say of those that follow, and how many continuation lines
 /// there are.
@@ -26,167 +23,148 @@ pub struct State {
     continued: u32,
 }
 
-/// The first bad character in columns 6 to 72.
-fn character_fault(alloc: Global, scan: Scan, line: &[u8]) -> Result<Option<Fault>, AllocError>
-    ensures { IfOk result (λ fault. option_map fault_of fault ≡ reading.read_character (scan_of scan) line.now) }
+/// Whether a character with this mark can't stand in a statement.
+fn is_bad(byte: u8, mark: u8) -> bool
+    ensures { result ≡ is_bad byte mark }
 {
-    if is_bad(column_6(line), 0) {
-        return Ok(column_fault(Cause::BadCharacter, Some(6)));
-    }
-    let field = statement_field(alloc, line)?;
-    let column = bad_in_field(scan, field.as_slice());
-    Ok(column_fault(Cause::BadCharacter, column))
+    byte < 32 || byte == 127 || (127 < byte && mark == 0)
 }
 
-fn initial_fault(alloc: Global, line: &[u8]) -> Result<Option<Fault>, AllocError>
-    ensures { IfOk result (λ fault. option_map fault_of fault ≡ reading.read_initial line.now) }
+/// What some characters say of those that follow, or the column of the first bad one. The first stands in column 7.
+fn read_text(scan: Scan, text: &[u8]) -> Result<Scan, usize>
+    ensures good { IfOk result (λ after. (reading.bad_in_field (scan_of scan) text.now ≡ None) × (scan_of after ≡ scan_all (scan_of scan) text.now)) }
+    ensures bad { IfErr result (λ column. reading.bad_in_field (scan_of scan) text.now ≡ Some column) }
+{
+    let mut after = scan;
+    for (index, byte) in text.iter().enumerate() {
+        if is_bad(*byte, after.mark(*byte)) {
+            return Err(index + 7);
+        }
+        after = after.after(*byte);
+    }
+    Ok(after)
+}
+
+/// What the field of a line says of the characters that follow, or the column of its first bad one. The blanks that it is
+/// padded with are taken at once.
+fn read_field(scan: Scan, line: &[u8]) -> Result<Scan, usize>
+    ensures good { IfOk result (λ after. (reading.bad_in_field (scan_of scan) (statement_field line.now) ≡ None) × (scan_of after ≡ scan_all (scan_of scan) (statement_field line.now))) }
+    ensures bad { IfErr result (λ column. reading.bad_in_field (scan_of scan) (statement_field line.now) ≡ Some column) }
+{
+    let text = statement_text(line);
+    match read_text(scan, text) {
+        Ok(after) => Ok(after.after_blanks((FIELD - text.len()) as u32)),
+        Err(column) => Err(column),
+    }
+}
+
+/// What the characters of a line say of those that follow, or the first bad one in columns 6 to 72.
+fn read_characters(scan: Scan, line: &[u8]) -> Result<Scan, Fault>
+    ensures fault { fault_in result ≡ reading.read_character (scan_of scan) line.now }
+    ensures after { IfOk result (λ after. scan_of after ≡ scan_all (scan_of scan) (statement_field line.now)) }
+{
+    let cause = Cause::BadCharacter;
+    if is_bad(column_6(line), 0) {
+        return Err(Fault { cause, number: 6 });
+    }
+    match read_field(scan, line) {
+        Ok(after) => Ok(after),
+        Err(number) => Err(Fault { cause, number }),
+    }
+}
+
+/// An initial line: what its characters say of those that follow, or what is wrong with it.
+fn read_initial(line: &[u8]) -> Result<Scan, Fault>
+    ensures fault { fault_in result ≡ reading.read_initial line.now }
+    ensures after { IfOk result (λ after. scan_of after ≡ scan_all (scan_start (label_of line.now)) (statement_field line.now)) }
 {
     if let Some(fault) = long_fault(line) {
-        return Ok(Some(fault));
+        return Err(fault);
     }
     if let Some(fault) = label_fault(line) {
-        return Ok(Some(fault));
+        return Err(fault);
     }
-    character_fault(alloc, Scan::start(label_of(line)), line)
+    read_characters(Scan::start(label_of(line)), line)
 }
 
-/// A continuation line needs an initial line before it, and isn't the 100th of its statement.
-fn place_fault(
-    alloc: Global,
-    state: Option<State>,
-    line: &[u8],
-) -> Result<Option<Fault>, AllocError>
-    ensures { IfOk result (λ fault. option_map fault_of fault ≡ reading.read_place (option_map state_of state) line.now) }
-{
-    match state {
-        None => Ok(column_fault(Cause::ContinuationFirst, Some(6))),
-        Some(state) => {
-            if state.continued == MAX_CONTINUATIONS {
-                return Ok(column_fault(Cause::TooManyContinuations, Some(6)));
-            }
-            character_fault(alloc, state.scan, line)
-        }
-    }
-}
-
-fn continuation_fault(
-    alloc: Global,
-    state: Option<State>,
-    line: &[u8],
-) -> Result<Option<Fault>, AllocError>
-    ensures { IfOk result (λ fault. option_map fault_of fault ≡ reading.read_continuation (option_map state_of state) line.now) }
+/// A continuation line of a statement that was begun, likewise. There are at most `MOST_CONTINUED`.
+fn read_continuation(state: State, line: &[u8]) -> Result<Scan, Fault>
+    ensures fault { fault_in result ≡ reading.read_continuation (Some (state_of state)) line.now }
+    ensures after { IfOk result (λ after. scan_of after ≡ scan_all (scan_of state.scan) (statement_field line.now)) }
 {
     if let Some(fault) = long_fault(line) {
-        return Ok(Some(fault));
+        return Err(fault);
     }
-    if let Some(fault) = column_fault(Cause::BadLabelField, filled_column(line)) {
-        return Ok(Some(fault));
+    if let Some(fault) = filled_fault(line) {
+        return Err(fault);
     }
-    place_fault(alloc, state, line)
+    if state.continued == MOST_CONTINUED {
+        let cause = Cause::TooManyContinuations;
+        return Err(Fault { cause, number: 6 });
+    }
+    read_characters(state.scan, line)
 }
 
-/// What is wrong with a line, after the lines so far of a statement.
-fn line_fault(alloc: Global, state: Option<State>, line: &[u8]) -> Result<Option<Fault>, AllocError>
-    ensures { IfOk result (λ fault. option_map fault_of fault ≡ reading.read_fault (option_map state_of state) line.now) }
+/// What is wrong with a continuation line that no initial line stands before.
+fn unbegun_fault(line: &[u8]) -> Fault
+    ensures { Some (fault_of result) ≡ reading.read_continuation None line.now }
 {
-    if is_comment(line) {
-        return Ok(long_fault(line));
+    if let Some(fault) = long_fault(line) {
+        return fault;
     }
-    if is_initial(line) {
-        return initial_fault(alloc, line);
+    if let Some(fault) = filled_fault(line) {
+        return fault;
     }
-    continuation_fault(alloc, state, line)
+    let cause = Cause::ContinuationFirst;
+    Fault { cause, number: 6 }
 }
 
-/// After the initial line of a statement.
-fn state_new(alloc: Global, fault: Option<Fault>, line: &[u8]) -> Result<State, AllocError>
-    ensures { IfOk result (λ state. state_of state ≡ reading.state_new (option_map fault_of fault) line.now) }
+/// The statement that begins with an initial line, and what is wrong with the line. One that is refused leaves a
+/// statement without label and characters.
+fn after_initial(line: &[u8]) -> (State, Option<Fault>)
+    ensures fault { option_map fault_of result.1 ≡ reading.read_initial line.now }
+    ensures state { state_of result.0 ≡ reading.state_new (option_map fault_of result.1) line.now }
 {
-    let scan = match fault {
-        None => {
-            let field = statement_field(alloc, line)?;
-            after_field(Scan::start(label_of(line)), field.as_slice())
-        }
-        Some(_) => Scan::start(0),
+    let (scan, fault) = match read_initial(line) {
+        Ok(scan) => (scan, None),
+        Err(fault) => (Scan::start(0), Some(fault)),
     };
-    Ok(State { scan, continued: 0 })
+    (State { scan, continued: 0 }, fault)
 }
 
-/// After a continuation line of a statement.
-fn state_more(
-    alloc: Global,
-    fault: Option<Fault>,
-    line: &[u8],
-    state: State,
-) -> Result<State, AllocError>
+/// The statement behind one more continuation line, and what is wrong with the line. One that is refused leaves no
+/// characters.
+fn after_continuation(state: State, line: &[u8]) -> (State, Option<Fault>)
     requires { state.continued < 4294967295 }
-    ensures { IfOk result (λ made. state_of made ≡ reading.state_more (option_map fault_of fault) line.now (state_of state)) }
+    ensures fault { option_map fault_of result.1 ≡ reading.read_continuation (Some (state_of state)) line.now }
+    ensures state { state_of result.0 ≡ reading.state_more (option_map fault_of result.1) line.now (state_of state) }
 {
-    let scan = match fault {
-        None => {
-            let field = statement_field(alloc, line)?;
-            after_field(state.scan, field.as_slice())
-        }
-        Some(_) => state.scan,
+    let (scan, fault) = match read_continuation(state, line) {
+        Ok(scan) => (scan, None),
+        Err(fault) => (state.scan, Some(fault)),
     };
     let continued = state.continued + 1;
-    Ok(State { scan, continued })
+    (State { scan, continued }, fault)
 }
 
-/// After a line with this fault.
-fn state_after(
-    alloc: Global,
-    state: Option<State>,
-    fault: Option<Fault>,
-    line: &[u8],
-) -> Result<Option<State>, AllocError>
+/// The statement behind one more line, and what is wrong with the line.
+pub fn after_line(state: Option<State>, line: &[u8]) -> (Option<State>, Option<Fault>)
     requires { IfSome state (λ state. state.continued < 4294967295) }
-    ensures { IfOk result (λ made. option_map state_of made ≡ reading.state_after (option_map state_of state) (option_map fault_of fault) line.now) }
+    ensures fault { option_map fault_of result.1 ≡ reading.read_fault (option_map state_of state) line.now }
+    ensures state { option_map state_of result.0 ≡ reading.state_after (option_map state_of state) (option_map fault_of result.1) line.now }
 {
     if is_comment(line) {
-        return Ok(state);
+        return (state, long_fault(line));
     }
     if is_initial(line) {
-        return Ok(Some(state_new(alloc, fault, line)?));
+        let (state, fault) = after_initial(line);
+        return (Some(state), fault);
     }
     match state {
-        None => Ok(None),
-        Some(state) => Ok(Some(state_more(alloc, fault, line, state)?)),
+        None => (None, Some(unbegun_fault(line))),
+        Some(state) => {
+            let (state, fault) = after_continuation(state, line);
+            (Some(state), fault)
+        }
     }
-}
-
-/// Appends the refusal of a line, if it has a fault.
-fn refuse(
-    alloc: Global,
-    place: Place,
-    fault: Option<Fault>,
-    refusals: &mut Refusals,
-) -> Result<(), AllocError>
-    ensures { OnOk result (refusals.new ≡ refusals.old ++ refused_at place.file place.line (option_map fault_of fault)) }
-{
-    if let Some(fault) = fault {
-        refusals.push(refusal_at(alloc, place, fault)?)?;
-    }
-    Ok(())
-}
-
-/// What is refused of the lines of a file, in order.
-pub fn check_lines(alloc: Global, file: u32, bytes: &[u8]) -> Result<Refusals, AllocError>
-    requires { length bytes.now ≤ 16777216 }
-    ensures { IfOk result (λ refusals. refusals ≡ line_refusals file 1 None (lines bytes.now)) }
-{
-    let mut refusals = Items::new(alloc);
-    let mut state = None;
-    let mut left = bytes;
-    let mut number = 1;
-    while !left.is_empty() {
-        let (line, after) = next_line(left);
-        let fault = line_fault(alloc, state, line)?;
-        let place = Place { file, line: number };
-        refuse(alloc, place, fault, &mut refusals)?;
-        state = state_after(alloc, state, fault, line)?;
-        number += 1;
-        left = after;
-    }
-    Ok(refusals)
 }

@@ -1,24 +1,27 @@
 // The columns of a line (X3.9 section 3.2).
-ghost use Rattle.std.specs.Prelude.{◌≡◌, IfOk, take, drop, slice_index_or};
-ghost use Rattle.text_base.specs.Lines as form;
+ghost use Rattle.std.specs.Prelude.{◌≡◌, ◌-◌, take, drop};
+ghost use Rattle.text_base.specs.Lines as layout;
+ghost use Rattle.text_base.specs.declared.limits.TheConstants.{LAST_COLUMN};
 
 use crate::lines::{behind, first};
-use std::alloc::{AllocError, Global};
-use text_base::Bytes;
 use text_base::chars::is_digit;
+use text_base::limits::LAST_COLUMN;
 
-const BLANK: u8 = 32;
+/// How many columns of a line have characters of a statement: 7 to 72.
+pub const FIELD: usize = LAST_COLUMN - 6;
+
+const BLANK: u8 = b' ';
 
 /// Whether there are blanks alone, or nothing.
 pub fn is_blank(line: &[u8]) -> bool
-    ensures { result ≡ form.is_blank line.now }
+    ensures { result ≡ layout.is_blank line.now }
 {
     line.iter().all(|byte| *byte == BLANK)
 }
 
 /// Whether the line has C, c, * or ! in column 1.
 pub fn is_marked(line: &[u8]) -> bool
-    ensures { result ≡ form.is_marked line.now }
+    ensures { result ≡ layout.is_marked line.now }
 {
     match line {
         [] => false,
@@ -28,21 +31,21 @@ pub fn is_marked(line: &[u8]) -> bool
 
 /// Whether the line is a comment: it has a mark in column 1, or nothing but blanks in columns 1 to 72.
 pub fn is_comment(line: &[u8]) -> bool
-    ensures { result ≡ form.is_comment line.now }
+    ensures { result ≡ layout.is_comment line.now }
 {
-    is_marked(line) || is_blank(first(72, line))
+    is_marked(line) || is_blank(first(LAST_COLUMN, line))
 }
 
 /// The byte in column 6, which is a blank where the line is shorter.
 pub fn column_6(line: &[u8]) -> u8
-    ensures { result ≡ form.column_6 line.now }
+    ensures { result ≡ layout.column_6 line.now }
 {
     if line.len() > 5 { line[5] } else { BLANK }
 }
 
 /// Whether a line of a statement is an initial line: column 6 has a blank or 0.
 pub fn is_initial(line: &[u8]) -> bool
-    ensures { result ≡ form.is_initial line.now }
+    ensures { result ≡ layout.is_initial line.now }
 {
     let column = column_6(line);
     column == BLANK || column == b'0'
@@ -50,14 +53,14 @@ pub fn is_initial(line: &[u8]) -> bool
 
 /// Columns 1 to 5.
 pub fn label_field(line: &[u8]) -> &[u8]
-    ensures { result.now ≡ form.label_field line.now }
+    ensures { result.now ≡ layout.label_field line.now }
 {
     first(5, line)
 }
 
 /// The statement label of an initial line, 0 where it has none.
 pub fn label_of(line: &[u8]) -> u32
-    ensures { result ≡ form.label_of line.now }
+    ensures { result ≡ layout.label_of line.now }
 {
     let field = label_field(line);
     let mut label = 0;
@@ -69,18 +72,27 @@ pub fn label_of(line: &[u8]) -> u32
     label
 }
 
-/// Columns 7 to 72 of the line, padded with blanks.
-pub fn statement_field(alloc: Global, line: &[u8]) -> Result<Bytes, AllocError>
-    ensures { IfOk result (λ field. field ≡ form.statement_field line.now) }
+/// What the line has in columns 7 to 72.
+pub fn statement_text(line: &[u8]) -> &[u8]
+    ensures { result.now ≡ take (LAST_COLUMN - 6) (drop 6 line.now) }
 {
-    let mut text = first(66, behind(6, line)).to_vec(alloc)?;
-    text.resize(66, BLANK)?;
-    Ok(Bytes::from_vec(text))
+    first(FIELD, behind(6, line))
+}
+
+/// Columns 7 to 72 of the line, padded with blanks.
+pub fn statement_field(line: &[u8]) -> [u8; FIELD]
+    ensures { result ≡ layout.statement_field line.now }
+{
+    let text = statement_text(line);
+    let mut field = [BLANK; FIELD];
+    let (front, _) = field.split_at_mut(text.len());
+    front.copy_from_slice(text);
+    field
 }
 
 /// Whether the line is one of a statement that has something other than a blank after column 72.
 pub fn is_cut(line: &[u8]) -> bool
-    ensures { result ≡ form.is_cut line.now }
+    ensures { result ≡ layout.is_cut line.now }
 {
-    !is_comment(line) && !is_blank(behind(72, line))
+    !is_comment(line) && !is_blank(behind(LAST_COLUMN, line))
 }

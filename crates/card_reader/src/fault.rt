@@ -1,12 +1,14 @@
 // What is wrong with a line.
-ghost use Rattle.std.specs.Prelude.{◌≡◌, ◌∷◌, [], decimal, IfOk};
+ghost use Rattle.std.specs.Prelude.{◌≡◌, decimal, IfOk};
 ghost use Rattle.std.specs.Option.{option_map};
-ghost use Rattle.text_base.specs.LineRefusals as form;
-ghost use Rattle.card_reader.specs.Views.{fault_of};
+ghost use Rattle.text_base.specs.LineRefusals as refusals;
+ghost use Rattle.text_base.specs.declared.refusal.Cause.TheVariants.{BadLabelField};
+ghost use Rattle.card_reader.specs.Fault.{fault_of};
 
 use crate::columns::{is_blank, label_field, label_of};
 use std::alloc::{AllocError, Global};
 use text_base::chars::is_digit;
+use text_base::limits::LONGEST_LINE;
 use text_base::{Bytes, Cause, Place, Refusal};
 
 /// A cause, and the number that it names: a column or a length.
@@ -29,11 +31,11 @@ pub fn refusal_at(alloc: Global, place: Place, fault: Fault) -> Result<Refusal, 
     })
 }
 
-/// A line has at most 132 bytes.
+/// A line has at most `LONGEST_LINE` bytes.
 pub fn long_fault(line: &[u8]) -> Option<Fault>
-    ensures { option_map fault_of result ≡ form.long_fault line.now }
+    ensures { option_map fault_of result ≡ refusals.long_fault line.now }
 {
-    if line.len() > 132 {
+    if line.len() > LONGEST_LINE {
         Some(Fault {
             cause: Cause::LineTooLong,
             number: line.len(),
@@ -45,7 +47,7 @@ pub fn long_fault(line: &[u8]) -> Option<Fault>
 
 /// The first of columns 1 to 5 that has something other than a digit or a blank.
 fn label_column(line: &[u8]) -> Option<usize>
-    ensures { result ≡ form.label_column line.now }
+    ensures { result ≡ refusals.label_column line.now }
 {
     let field = label_field(line);
     for (index, byte) in field.iter().enumerate() {
@@ -57,8 +59,8 @@ fn label_column(line: &[u8]) -> Option<usize>
 }
 
 /// The first of columns 1 to 5 that has something other than a blank.
-pub fn filled_column(line: &[u8]) -> Option<usize>
-    ensures { result ≡ form.filled_column line.now }
+fn filled_column(line: &[u8]) -> Option<usize>
+    ensures { result ≡ refusals.filled_column line.now }
 {
     let field = label_field(line);
     for (index, byte) in field.iter().enumerate() {
@@ -69,9 +71,16 @@ pub fn filled_column(line: &[u8]) -> Option<usize>
     None
 }
 
+/// The label field of a continuation line has blanks alone.
+pub fn filled_fault(line: &[u8]) -> Option<Fault>
+    ensures { option_map fault_of result ≡ refusals.column_fault BadLabelField (refusals.filled_column line.now) }
+{
+    column_fault(Cause::BadLabelField, filled_column(line))
+}
+
 /// Column 1, where the label is of zeros alone.
 fn zero_label(line: &[u8]) -> Option<usize>
-    ensures { result ≡ form.zero_label line.now }
+    ensures { result ≡ refusals.zero_label line.now }
 {
     if !is_blank(label_field(line)) && label_of(line) == 0 {
         Some(1)
@@ -82,7 +91,7 @@ fn zero_label(line: &[u8]) -> Option<usize>
 
 /// The label field of an initial line has digits and blanks alone, and no label of zeros.
 pub fn label_fault(line: &[u8]) -> Option<Fault>
-    ensures { option_map fault_of result ≡ form.label_fault line.now }
+    ensures { option_map fault_of result ≡ refusals.label_fault line.now }
 {
     let column = match label_column(line) {
         Some(column) => Some(column),
@@ -92,8 +101,8 @@ pub fn label_fault(line: &[u8]) -> Option<Fault>
 }
 
 /// A fault that names a column, if there is one.
-pub fn column_fault(cause: Cause, column: Option<usize>) -> Option<Fault>
-    ensures { option_map fault_of result ≡ form.column_fault cause column }
+fn column_fault(cause: Cause, column: Option<usize>) -> Option<Fault>
+    ensures { option_map fault_of result ≡ refusals.column_fault cause column }
 {
     match column {
         Some(number) => Some(Fault { cause, number }),

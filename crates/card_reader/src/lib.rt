@@ -5,22 +5,16 @@ mod card;
 mod cards_error;
 mod check;
 mod columns;
-mod comment;
-mod comments;
 mod deck;
 mod fault;
-mod kept;
+mod laws;
 mod lines;
 mod reader;
 mod scan;
-mod statements;
 
 pub use card::{Card, Cards};
 pub use cards_error::CardsError;
-pub use comment::{Comment, Comments};
 pub use deck::Deck;
+pub use laws::{cards_are_marked, comments_stand_between_statements, kept_is_by_pieces};
 pub use reader::read_cards;
 pub use scan::Scan;
-
-#[cfg(test)]
-mod tests;

@@ -1,7 +1,7 @@
 // The lines of a file (X3.9 section 3.2).
-ghost use Rattle.std.specs.Prelude.{◌≡◌, ◌<◌, ◌∷◌, length, take, drop, ◌==◌};
-ghost use Rattle.std.specs.List.{position, position_or_len};
-ghost use Rattle.text_base.specs.Lines as form;
+ghost use Rattle.std.specs.Prelude.{◌≡◌, ◌<◌, ◌∷◌, length, take, drop, ◌==◌, not, true};
+ghost use Rattle.std.specs.List.{list_all, position, position_or_len};
+ghost use Rattle.text_base.specs.Lines as layout;
 
 const LINE_FEED: u8 = 10;
 
@@ -45,8 +45,9 @@ fn length_of_line(bytes: &[u8]) -> usize
 
 /// The first line of what is left of a file, and what is left behind it.
 fn cut_line(rest: &[u8]) -> (&[u8], &[u8])
-    ensures line { 0 < length rest.now → form.cut rest.now ≡ result.0.now ∷ form.cut result.1.now }
+    ensures line { 0 < length rest.now → layout.cut rest.now ≡ result.0.now ∷ layout.cut result.1.now }
     ensures shorter { 0 < length rest.now → length result.1.now < length rest.now }
+    ensures feedless { list_all (λ c. not (c == 10)) result.0.now ≡ true }
 {
     let count = length_of_line(rest);
     (first(count, rest), behind(1, behind(count, rest)))
@@ -54,7 +55,8 @@ fn cut_line(rest: &[u8]) -> (&[u8], &[u8])
 
 /// The line without the CR at its end.
 fn without_return(line: &[u8]) -> &[u8]
-    ensures { result.now ≡ form.without_return line.now }
+    ensures line { result.now ≡ layout.without_return line.now }
+    ensures feedless { list_all (λ c. not (c == 10)) line.now ≡ true → list_all (λ c. not (c == 10)) result.now ≡ true }
 {
     if !line.is_empty() && line[line.len() - 1] == RETURN {
         first(line.len() - 1, line)
@@ -65,8 +67,9 @@ fn without_return(line: &[u8]) -> &[u8]
 
 /// The first line of what is left of a file, without a CR at its end, and what is left behind it.
 pub fn next_line(rest: &[u8]) -> (&[u8], &[u8])
-    ensures line { 0 < length rest.now → form.lines rest.now ≡ result.0.now ∷ form.lines result.1.now }
+    ensures line { 0 < length rest.now → layout.lines rest.now ≡ result.0.now ∷ layout.lines result.1.now }
     ensures shorter { 0 < length rest.now → length result.1.now < length rest.now }
+    ensures feedless { list_all (λ c. not (c == 10)) result.0.now ≡ true }
 {
     let (line, after) = cut_line(rest);
     (without_return(line), after)

@@ -1,8 +1,8 @@
 // Kept text: the characters of a statement that are read as they stand (X3.9 sections 4.8 and 13.5.2).
-ghost use Rattle.std.specs.Prelude.{◌≡◌, ◌==◌, not, ◌<◌, true};
+ghost use Rattle.std.specs.Prelude.{◌≡◌, ◌==◌, not, true, replicate};
 ghost use Rattle.text_base.specs.Chars.{is_digit};
-ghost use Rattle.text_base.specs.Kept as form;
-ghost use Rattle.card_reader.specs.Views.{scan_of};
+ghost use Rattle.text_base.specs.Kept as kept;
+ghost use Rattle.card_reader.specs.Scan.{scan_of};
 
 use text_base::chars::{is_digit, to_upper};
 
@@ -29,7 +29,7 @@ pub struct Scan {
 impl Scan {
     /// Before the first character of a statement with this label.
     pub fn start(label: u32) -> Scan
-        ensures { scan_of result ≡ form.scan_start label }
+        ensures { scan_of result ≡ kept.scan_start label }
     {
         Scan {
             matched: if label == 0 { 8 } else { 0 },
@@ -55,7 +55,7 @@ impl Scan {
 
     /// The mark of a character: 1 where it belongs to kept text.
     pub fn mark(self, byte: u8) -> u8
-        ensures { result ≡ form.mark_of (scan_of self) byte }
+        ensures { result ≡ kept.mark_of (scan_of self) byte }
     {
         if self.inside || self.left != 0 || byte == b'\'' {
             1
@@ -66,7 +66,7 @@ impl Scan {
 
     /// After one more character.
     pub fn after(self, byte: u8) -> Scan
-        ensures { scan_of result ≡ form.scan_after (scan_of self) byte }
+        ensures { scan_of result ≡ kept.scan_after (scan_of self) byte }
     {
         if self.inside {
             return Scan {
@@ -94,9 +94,21 @@ impl Scan {
         self.after_plain(byte)
     }
 
+    /// After some blanks.
+    pub(crate) fn after_blanks(self, count: u32) -> Scan
+        ensures { scan_of result ≡ kept.scan_all (scan_of self) (replicate count 32) }
+    {
+        if self.inside {
+            self
+        } else {
+            let left = self.left.saturating_sub(count);
+            Scan { left, ..self }
+        }
+    }
+
     /// After a character of plain text that is no apostrophe and no blank.
     fn after_plain(self, byte: u8) -> Scan
-        ensures { scan_of result ≡ form.scan_plain (scan_of self) byte }
+        ensures { scan_of result ≡ kept.scan_plain (scan_of self) byte }
     {
         let matched = more_matched(self.matched, byte);
         if is_digit(byte) {
@@ -125,7 +137,7 @@ impl Scan {
 /// A number with one more digit.
 fn more_count(count: Option<u32>, digit: u8) -> Option<u32>
     requires { is_digit digit ≡ true }
-    ensures { result ≡ form.more_count count digit }
+    ensures { result ≡ kept.more_count count digit }
 {
     let value = u64::from(digit - 48);
     match count {
@@ -136,12 +148,14 @@ fn more_count(count: Option<u32>, digit: u8) -> Option<u32>
 
 /// How many characters of `FORMAT(` the statement begins with, after one more that isn't blank.
 fn more_matched(matched: u32, byte: u8) -> u32
-    ensures { result ≡ form.more_matched matched byte }
+    ensures { result ≡ kept.more_matched matched byte }
 {
-    if matched < 7 && FORMAT[matched as usize] == to_upper(byte) {
-        matched + 1
+    if matched > 7 {
+        8
     } else if matched == 7 {
         7
+    } else if FORMAT[matched as usize] == to_upper(byte) {
+        matched + 1
     } else {
         8
     }

@@ -3,7 +3,7 @@ use Rattle.std.proofs.Common.{◌≡◌, ℕ, ◌+◌, ◌*◌, ◌-◌, ◌<◌
 use Rattle.std.specs.Prelude.{if◌then◌else◌}
 use Rattle.std.proofs.lemmas.List.{at_drop_more}
 use Rattle.std.proofs.lemmas.Bool.{lt-leb}
-use Rattle.tree77.specs.Items.{decimal_from, decimal, is_small}
+use Rattle.tree77.specs.Lexemes.{decimal_from, decimal, is_small}
 
 -- further digits make no number smaller
 after_le : (n : ℕ) (cs : List ℕ) → n ≤ decimal_from n cs

@@ -1,58 +1,89 @@
 -- What is read of tokens is what their pieces spell.
-use Rattle.std.proofs.Common.{◌≡◌, Bool, true, false, List, [], ◌∷◌, map, take, flat_map, Option, Some, None, refl, sym, ap, ◌∙◌, subst}
+use Rattle.std.proofs.Common.{◌≡◌, ℕ, Bool, true, false, List, [], ◌∷◌, map, take, flat_map, Option, Some, None, refl, sym, ap, ◌∙◌, subst}
 use Rattle.std.specs.List.{list_any}
 use Rattle.std.specs.Prelude.{if◌then◌else◌}
+use Rattle.std.proofs.lemmas.Option.{same_Some}
 use Rattle.text_base.specs.Pieces.{Piece, piece_text}
+use Rattle.text_base.specs.Trees.{Expr}
+use Rattle.text_base.specs.declared.limits.TheConstants.{MOST_SHOWN}
 use Rattle.text_base.specs.declared.refusal.Cause.TheVariants.{NotAStatement}
-use Rattle.tree77.specs.Tokens.{Token, IsCut, no_token, read_tokens}
-use Rattle.tree77.specs.Syntax.{Expr}
-use Rattle.tree77.specs.Items.{Item, Part, symbol_of, parts_from, is_lower, first_lowest, IsWide, Spells, IsRefused, refused_whole, refused_part}
-use Rattle.expr77.specs.Building.{build}
-use Rattle.expr77.specs.ItemReading.{items_of}
-use Rattle.expr77.specs.Outcome.{accepted, refused, not_spelled, unless_part, outcome_of_tree, outcome_of_items, outcome_of}
-use Rattle.expr77.proofs.Simple.{items_are_simple}
-use Rattle.expr77.proofs.ItemFound.{items_found}
-use Rattle.expr77.proofs.ItemOnly.{items_only}
-use Rattle.expr77.proofs.BuildComplete.{expression_built}
-use Rattle.expr77.proofs.BuildSound.{built_is}
+use Rattle.text_base.proofs.Optional.{went, mapped}
+use Rattle.tree77.specs.Tokens.{Token, IsCut}
+use Rattle.tree77.specs.Expressions.{Symbol, IsExpression}
+use Rattle.tree77.specs.Lexemes.{Lexeme, Part, symbol_of, parts_from, is_lower, first_lowest, IsWideExpression, SpellsExpression, IsRefusedExpression, refused_whole, refused_part}
+use Rattle.scan77.specs.TokenReading.{no_token, read_tokens}
+use Rattle.group77.specs.Building.{build}
+use Rattle.expr77.specs.Gathering.{keep}
+use Rattle.expr77.specs.LexemeReading.{lexemes_of}
+use Rattle.expr77.specs.Outcome.{accepted, refused, tree_of, expression_of, outcome_from, outcome_of}
+use Rattle.expr77.specs.Parsing.{IsReadFrom}
+use Rattle.expr77.proofs.GatherLaw.{keeps_on}
+use Rattle.expr77.proofs.LexemeFound.{lexemes_found}
+use Rattle.expr77.proofs.LexemeOnly.{lexemes_only}
+use Rattle.expr77.proofs.Standing.{expression_fits}
 
--- what the law on cuts says
+-- what the laws on cuts and on groups say
 abbrev pub CutIsRead : Type 0
 CutIsRead = (pieces : List Piece) (tokens : List Token) → IsCut pieces tokens → read_tokens pieces no_token ≡ Some tokens
 
 abbrev pub CutIsJoined : Type 0
 CutIsJoined = (pieces : List Piece) (tokens : List Token) → IsCut pieces tokens → flat_map (λ t. t.text) tokens ≡ flat_map piece_text pieces
 
-same : {A : Type 0} {a b : A} → Some a ≡ Some b → a ≡ b
-same e = cc
+abbrev pub TreeIsFound : Type 0
+TreeIsFound = (t : List Symbol) (x : Expr) → build t ≡ Some x → IsExpression t x
+
+abbrev pub TreeIsOnly : Type 0
+TreeIsOnly = (t : List Symbol) (x : Expr) → IsExpression t x → build t ≡ Some x
+
+-- symbols that are no expression give no tree
+pub none_built : TreeIsFound → (t : List Symbol) → ((x : Expr) → IsExpression t x → ⊥) → build t ≡ None
+none_built is_found t none = go (build t) refl
+  where
+    go : (o : Option Expr) → build t ≡ o → o ≡ None
+    go None e = refl
+    go (Some x) e = absurd (none x (is_found t x e))
 
 -- ---- wide expressions
 
-pub wide_found : (pieces : List Piece) (tokens : List Token) (items : List Item) (x : Expr) → IsCut pieces tokens → items_of tokens ≡ Some items → build (map symbol_of items) ≡ Some x → IsWide pieces items x
-wide_found pieces tokens items x cut read built =
-    record { spelled = items_found pieces tokens items cut read; formed = built_is (map symbol_of items) x (items_are_simple items) built }
-
-pub wide_only : CutIsRead → (pieces : List Piece) (tokens : List Token) (items : List Item) (x : Expr) → IsCut pieces tokens → IsWide pieces items x
-    → (items_of tokens ≡ Some items) × (build (map symbol_of items) ≡ Some x)
-wide_only is_read pieces tokens items x cut wide =
-    let built = expression_built (map symbol_of items) x wide.formed in
-    let made = items_only pieces items x wide.spelled built in
-    let same_tokens : made.0 ≡ tokens = same (sym (is_read pieces made.0 made.1) ∙ is_read pieces tokens cut) in
-    (subst (λ ts. items_of ts ≡ Some items) same_tokens made.2, built)
-
 -- what spells an expression can be cut into tokens
-pub wide_cut : (pieces : List Piece) (items : List Item) (x : Expr) → IsWide pieces items x → (tokens : List Token) × IsCut pieces tokens
-wide_cut pieces items x wide =
-    let made = items_only pieces items x wide.spelled (expression_built (map symbol_of items) x wide.formed) in
-    (made.0, made.1)
+pub wide_cut : (pieces : List Piece) (lexemes : List Lexeme) (x : Expr) → IsWideExpression pieces lexemes x → (tokens : List Token) × IsCut pieces tokens
+wide_cut pieces lexemes x wide = let made = lexemes_only pieces lexemes wide.spelled (expression_fits (map symbol_of lexemes) x wide.formed) in (made.0, made.1)
 
-pub one_wide : CutIsRead → (pieces : List Piece) (items others : List Item) (x y : Expr) → IsWide pieces items x → IsWide pieces others y → (items ≡ others) × (x ≡ y)
-one_wide is_read pieces items others x y first second =
-    let made = items_only pieces items x first.spelled (expression_built (map symbol_of items) x first.formed) in
-    let here = wide_only is_read pieces made.0 items x made.1 first in
-    let there = wide_only is_read pieces made.0 others y made.1 second in
-    let same_items : items ≡ others = same (sym here.0 ∙ there.0) in
-    (same_items, same (sym here.1 ∙ ap (λ is. build (map symbol_of is)) same_items ∙ there.1))
+wide_only : CutIsRead → (pieces : List Piece) (tokens : List Token) (lexemes : List Lexeme) (x : Expr) → IsCut pieces tokens → IsWideExpression pieces lexemes x → lexemes_of tokens ≡ Some lexemes
+wide_only is_read pieces tokens lexemes x cut wide =
+    let made = lexemes_only pieces lexemes wide.spelled (expression_fits (map symbol_of lexemes) x wide.formed) in
+    let same_tokens : made.0 ≡ tokens = same_Some made.0 tokens (sym (is_read pieces made.0 made.1) ∙ is_read pieces tokens cut) in
+    subst (λ ts. lexemes_of ts ≡ Some lexemes) same_tokens made.2
+
+pub one_wide : CutIsRead → TreeIsOnly → (pieces : List Piece) (lexemes others : List Lexeme) (x y : Expr) → IsWideExpression pieces lexemes x → IsWideExpression pieces others y → (lexemes ≡ others) × (x ≡ y)
+one_wide is_read is_only pieces lexemes others x y first second =
+    let cut = wide_cut pieces lexemes x first in
+    let same : lexemes ≡ others = same_Some lexemes others (sym (wide_only is_read pieces cut.0 lexemes x cut.1 first) ∙ wide_only is_read pieces cut.0 others y cut.1 second) in
+    (same, same_Some x y (sym (is_only (map symbol_of lexemes) x first.formed) ∙ ap (λ is. build (map symbol_of is)) same ∙ is_only (map symbol_of others) y second.formed))
+
+-- ---- what is read of tokens
+
+-- an expression that is read is spelled, and the lowest part is carried on
+pub read_found : TreeIsFound → (depth : ℕ) (lowest next : Option Part) (pieces : List Piece) (tokens : List Token) (x : Expr) → IsCut pieces tokens → expression_of depth lowest tokens ≡ Some (x, next)
+    → IsReadFrom depth lowest pieces x next
+read_found is_found depth lowest next pieces tokens x cut e =
+    let w = went (lexemes_of tokens) (tree_of depth lowest) (x, next) e in
+    let m = mapped (build (map symbol_of w.from)) (λ x. (x, keep lowest (parts_from depth w.from))) (x, next) w.is in
+    let tree : m.from ≡ x = ap (λ (p : Expr × Option Part). p.0) m.is in
+    let kept : keep lowest (parts_from depth w.from) ≡ next = ap (λ (p : Expr × Option Part). p.1) m.is in (
+      w.from,
+      record { spelled = lexemes_found pieces tokens w.from cut w.was; formed = subst (IsExpression (map symbol_of w.from)) tree (is_found (map symbol_of w.from) m.from m.was) },
+      λ before is. sym kept ∙ ap (λ k. keep k (parts_from depth w.from)) is ∙ keeps_on before (parts_from depth w.from),
+    )
+
+-- where none is read, none is spelled
+pub read_none : CutIsRead → TreeIsOnly → (depth : ℕ) (lowest : Option Part) (pieces : List Piece) (tokens : List Token) → IsCut pieces tokens → expression_of depth lowest tokens ≡ None
+    → (lexemes : List Lexeme) (x : Expr) → IsWideExpression pieces lexemes x → ⊥
+read_none is_read is_only depth lowest pieces tokens cut none lexemes x wide =
+    let here : lexemes_of tokens ≡ Some lexemes = wide_only is_read pieces tokens lexemes x cut wide in
+    let tree : build (map symbol_of lexemes) ≡ Some x = is_only (map symbol_of lexemes) x wide.formed in
+    let read : None ≡ Some (x, keep lowest (parts_from depth lexemes)) = sym none ∙ rw (here, tree) refl in
+    absurd cc
 
 -- ---- refused parts
 
@@ -80,73 +111,43 @@ same_accepted e = cc
 same_refused : {p q : Part} → refused p ≡ refused q → p ≡ q
 same_refused e = cc
 
-pub outcome_accepted : (pieces : List Piece) (tokens : List Token) (x : Expr) → IsCut pieces tokens → outcome_of tokens ≡ accepted x → Spells pieces x
-outcome_accepted pieces tokens x cut = by_items (items_of tokens) refl
+pub outcome_accepted : TreeIsFound → (pieces : List Piece) (tokens : List Token) (x : Expr) → IsCut pieces tokens → outcome_of tokens ≡ accepted x → SpellsExpression pieces x
+outcome_accepted is_found pieces tokens x cut = go (expression_of 0 None tokens) refl
   where
-    by_parts : (items : List Item) (y : Expr) → IsWide pieces items y → (lowest : Option Part) → first_lowest (parts_from 0 items) ≡ lowest → unless_part y lowest ≡ accepted x → Spells pieces x
-    by_parts items y wide None none e =
-        record { items = items; wide = subst (IsWide pieces items) (same_accepted e) wide; accepted = no_lowest (parts_from 0 items) none }
-    by_parts items y wide (Some p) some e = absurd cc
+    go : (o : Option (Expr × Option Part)) → expression_of 0 None tokens ≡ o → outcome_from tokens o ≡ accepted x → SpellsExpression pieces x
+    go None read e = absurd cc
+    go (Some (y, Some p)) read e = absurd cc
+    go (Some (y, None)) read e =
+        let r = read_found is_found 0 None None pieces tokens y cut read in
+        record { lexemes = r.0; wide = subst (IsWideExpression pieces r.0) (same_accepted e) r.1; accepted = no_lowest (parts_from 0 r.0) (sym (r.2 [] refl)) }
 
-    by_tree : (items : List Item) → items_of tokens ≡ Some items → (tree : Option Expr) → build (map symbol_of items) ≡ tree → outcome_of_tree tokens items tree ≡ accepted x → Spells pieces x
-    by_tree items read None built e = absurd cc
-    by_tree items read (Some y) built e = by_parts items y (wide_found pieces tokens items y cut read built) (first_lowest (parts_from 0 items)) refl e
-
-    by_items : (items : Option (List Item)) → items_of tokens ≡ items → outcome_of_items tokens items ≡ accepted x → Spells pieces x
-    by_items None read e = absurd cc
-    by_items (Some items) read e = by_tree items read (build (map symbol_of items)) refl e
-
-pub outcome_refused : CutIsRead → CutIsJoined → (pieces : List Piece) (tokens : List Token) (p : Part) → IsCut pieces tokens → outcome_of tokens ≡ refused p → IsRefused pieces p
-outcome_refused is_read is_joined pieces tokens p cut = by_items (items_of tokens) refl
+pub outcome_refused : CutIsRead → CutIsJoined → TreeIsFound → TreeIsOnly → (pieces : List Piece) (tokens : List Token) (p : Part) → IsCut pieces tokens → outcome_of tokens ≡ refused p → IsRefusedExpression pieces p
+outcome_refused is_read is_joined is_found is_only pieces tokens p cut = go (expression_of 0 None tokens) refl
   where
-    whole : ((items : List Item) (x : Expr) → IsWide pieces items x → ⊥) → not_spelled tokens ≡ refused p → IsRefused pieces p
-    whole none e = refused_whole none (sym (same_refused e) ∙ ap (λ text. record { cause = NotAStatement; shown = take 12 text }) (is_joined pieces tokens cut))
-
-    by_parts : (items : List Item) (y : Expr) → IsWide pieces items y → (lowest : Option Part) → first_lowest (parts_from 0 items) ≡ lowest → unless_part y lowest ≡ refused p → IsRefused pieces p
-    by_parts items y wide None none e = absurd cc
-    by_parts items y wide (Some q) some e = refused_part items y wide (some ∙ ap Some (same_refused e))
-
-    no_tree : (items : List Item) → items_of tokens ≡ Some items → build (map symbol_of items) ≡ None → (others : List Item) (x : Expr) → IsWide pieces others x → ⊥
-    no_tree items read none others x wide =
-        let only = wide_only is_read pieces tokens others x cut wide in
-        let same_items : items ≡ others = same (sym read ∙ only.0) in
-        let built : None ≡ Some x = sym none ∙ ap (λ is. build (map symbol_of is)) same_items ∙ only.1 in
-        absurd cc
-
-    by_tree : (items : List Item) → items_of tokens ≡ Some items → (tree : Option Expr) → build (map symbol_of items) ≡ tree → outcome_of_tree tokens items tree ≡ refused p → IsRefused pieces p
-    by_tree items read None built e = whole (no_tree items read built) e
-    by_tree items read (Some y) built e = by_parts items y (wide_found pieces tokens items y cut read built) (first_lowest (parts_from 0 items)) refl e
-
-    no_items : items_of tokens ≡ None → (others : List Item) (x : Expr) → IsWide pieces others x → ⊥
-    no_items none others x wide =
-        let only = wide_only is_read pieces tokens others x cut wide in
-        let read : None ≡ Some others = sym none ∙ only.0 in
-        absurd cc
-
-    by_items : (items : Option (List Item)) → items_of tokens ≡ items → outcome_of_items tokens items ≡ refused p → IsRefused pieces p
-    by_items None read e = whole (no_items read) e
-    by_items (Some items) read e = by_tree items read (build (map symbol_of items)) refl e
+    go : (o : Option (Expr × Option Part)) → expression_of 0 None tokens ≡ o → outcome_from tokens o ≡ refused p → IsRefusedExpression pieces p
+    go None read e =
+        refused_whole (read_none is_read is_only 0 None pieces tokens cut read) (sym (same_refused e) ∙ ap (λ text. record { cause = NotAStatement; shown = take MOST_SHOWN text }) (is_joined pieces tokens cut))
+    go (Some (y, None)) read e = absurd cc
+    go (Some (y, Some q)) read e =
+        let r = read_found is_found 0 None (Some q) pieces tokens y cut read in
+        refused_part r.0 y r.1 (sym (r.2 [] refl) ∙ ap Some (same_refused e))
 
 -- ---- one of each
 
-pub one_spelled : CutIsRead → (pieces : List Piece) (x y : Expr) → Spells pieces x → Spells pieces y → x ≡ y
-one_spelled is_read pieces x y first second = (one_wide is_read pieces first.items second.items x y first.wide second.wide).1
+pub one_spelled : CutIsRead → TreeIsOnly → (pieces : List Piece) (x y : Expr) → SpellsExpression pieces x → SpellsExpression pieces y → x ≡ y
+one_spelled is_read is_only pieces x y first second = (one_wide is_read is_only pieces first.lexemes second.lexemes x y first.wide second.wide).1
 
-no_part : (ps : List Part) (p : Part) → ps ≡ [] → first_lowest ps ≡ Some p → ⊥
-no_part ps p none e =
-    let found : None ≡ Some p = sym (ap first_lowest none) ∙ e in
+pub apart : CutIsRead → TreeIsOnly → (pieces : List Piece) (x : Expr) (p : Part) → SpellsExpression pieces x → IsRefusedExpression pieces p → ⊥
+apart is_read is_only pieces x p spelled (refused_whole none is) = none spelled.lexemes x spelled.wide
+apart is_read is_only pieces x p spelled (refused_part lexemes y wide lowest) =
+    let same = (one_wide is_read is_only pieces spelled.lexemes lexemes x y spelled.wide wide).0 in
+    let found : None ≡ Some p = ap first_lowest (sym spelled.accepted ∙ ap (parts_from 0) same) ∙ lowest in
     absurd cc
 
-pub apart : CutIsRead → (pieces : List Piece) (x : Expr) (p : Part) → Spells pieces x → IsRefused pieces p → ⊥
-apart is_read pieces x p spelled (refused_whole none is) = none spelled.items x spelled.wide
-apart is_read pieces x p spelled (refused_part items y wide lowest) =
-    let same_items = (one_wide is_read pieces spelled.items items x y spelled.wide wide).0 in
-    no_part (parts_from 0 items) p (ap (parts_from 0) (sym same_items) ∙ spelled.accepted) lowest
-
-pub one_refused : CutIsRead → (pieces : List Piece) (p q : Part) → IsRefused pieces p → IsRefused pieces q → p ≡ q
-one_refused is_read pieces p q (refused_whole none is) (refused_whole other also) = is ∙ sym also
-one_refused is_read pieces p q (refused_whole none is) (refused_part items x wide lowest) = absurd (none items x wide)
-one_refused is_read pieces p q (refused_part items x wide lowest) (refused_whole none is) = absurd (none items x wide)
-one_refused is_read pieces p q (refused_part items x wide lowest) (refused_part others y also least) =
-    let same_items = (one_wide is_read pieces items others x y wide also).0 in
-    same (sym lowest ∙ ap (λ is. first_lowest (parts_from 0 is)) same_items ∙ least)
+pub one_refused : CutIsRead → TreeIsOnly → (pieces : List Piece) (p q : Part) → IsRefusedExpression pieces p → IsRefusedExpression pieces q → p ≡ q
+one_refused is_read is_only pieces p q (refused_whole none is) (refused_whole other also) = is ∙ sym also
+one_refused is_read is_only pieces p q (refused_whole none is) (refused_part lexemes x wide lowest) = absurd (none lexemes x wide)
+one_refused is_read is_only pieces p q (refused_part lexemes x wide lowest) (refused_whole none is) = absurd (none lexemes x wide)
+one_refused is_read is_only pieces p q (refused_part lexemes x wide lowest) (refused_part others y also least) =
+    let same = (one_wide is_read is_only pieces lexemes others x y wide also).0 in
+    same_Some p q (sym lowest ∙ ap (λ is. first_lowest (parts_from 0 is)) same ∙ least)

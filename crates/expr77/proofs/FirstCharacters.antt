@@ -1,28 +1,17 @@
--- First characters of texts that are joined.
-use Rattle.std.proofs.Common.{◌≡◌, ℕ, zero, suc, ◌-◌, ◌≤◌, List, [], ◌∷◌, ◌++◌, length, take, refl, sym, ap, ◌∙◌, arith, append-nil}
-use Rattle.std.proofs.lemmas.List.{take_all}
+-- The first characters of a text that grows.
+use Rattle.std.proofs.Common.{◌≡◌, ℕ, zero, suc, ◌-◌, List, [], ◌∷◌, ◌++◌, length, take, refl, sym, ap, subst, ◌∙◌, arith}
 
--- a text of which the rest is taken from what follows
-pub take_rest : (n : ℕ) (xs ys : List ℕ) → length xs ≤ n → xs ++ take (n - length xs) ys ≡ take n (xs ++ ys)
-take_rest n [] ys le = ap (λ m. take m ys) (nothing_off n)
+-- the first characters of a text, and of what follows as many as are wanting
+on : (n : ℕ) (xs ys : List ℕ) → take n xs ++ take (n - length (take n xs)) ys ≡ take n (xs ++ ys)
+on zero xs ys = refl
+on (suc n) [] ys = ap (λ m. take m ys) (nothing_off (suc n))
   where
     nothing_off : (n : ℕ) → n - 0 ≡ n
     nothing_off n = omega arith
-take_rest zero (x ∷ xs) ys le = absurd (too_long (length xs) le)
-  where
-    too_long : (k : ℕ) → suc k ≤ 0 → ⊥
-    too_long k le = omega (arith, le)
-take_rest (suc n) (x ∷ xs) ys le = ap (λ m. x ∷ xs ++ take m ys) (one_off (length xs)) ∙ ap (λ t. x ∷ t) (take_rest n xs ys (omega (arith, le)))
+on (suc n) (x ∷ xs) ys = ap (λ m. x ∷ take n xs ++ take m ys) (one_off (length (take n xs))) ∙ ap (λ t. x ∷ t) (on n xs ys)
   where
     one_off : (k : ℕ) → suc n - suc k ≡ n - k
     one_off k = omega arith
 
--- what is behind the first characters doesn't count
-pub take_front : (n : ℕ) (xs ys : List ℕ) → take n (take n xs ++ ys) ≡ take n (xs ++ ys)
-take_front zero xs ys = refl
-take_front (suc n) [] ys = refl
-take_front (suc n) (x ∷ xs) ys = ap (λ t. x ∷ t) (take_front n xs ys)
-
--- first characters that nothing follows
-pub nothing_follows : (n : ℕ) (xs all : List ℕ) → take n (xs ++ []) ≡ all → length xs ≤ n → xs ≡ all
-nothing_follows n xs all e le = sym (ap (take n) (append-nil xs) ∙ take_all n xs le) ∙ e
+pub take_on : (n : ℕ) (made xs ys : List ℕ) → made ≡ take n xs → made ++ take (n - length made) ys ≡ take n (xs ++ ys)
+take_on n made xs ys is = subst (λ m. m ++ take (n - length m) ys ≡ take n (xs ++ ys)) (sym is) (on n xs ys)

@@ -1,15 +1,17 @@
--- What is gathered of items is what they are.
-use Rattle.std.proofs.Common.{◌≡◌, ℕ, zero, suc, ◌+◌, ◌-◌, ◌<◌, arith, Bool, true, false, ◌||◌, List, [], ◌∷◌, ◌++◌, map, Option, Some, None, refl, sym, ap, ◌∙◌, append_assoc, append-nil}
+-- What is gathered of lexemes one after another, and the lowest part among some.
+use Rattle.std.proofs.Common.{◌≡◌, ℕ, suc, ◌+◌, ◌-◌, ◌<◌, arith, Bool, true, false, ◌||◌, List, [], ◌∷◌, ◌++◌, map, length, Option, Some, None, refl, sym, ap, ◌∙◌, append_assoc, append-nil}
 use Rattle.std.specs.Prelude.{nat_lt, if◌then◌else◌}
+use Rattle.std.specs.List.{list_any}
+use Rattle.std.specs.Option.{option_map, option_and_then}
 use Rattle.std.proofs.Math.Bool.{or-true}
 use Rattle.std.proofs.lemmas.Grind.{common_steps}
 use Rattle.text_base.specs.Causes.{cause_number}
-use Rattle.std.specs.List.{list_any}
-use Rattle.std.specs.Option.{option_map, option_and_then}
 use Rattle.tree77.specs.Tokens.{Token}
-use Rattle.tree77.specs.Items.{Item, Part, symbol_of, part_of, parts_from, depth_behind, is_lower, first_lowest}
-use Rattle.expr77.specs.ItemReading.{Stand, stand_behind, read_item, read_items}
-use Rattle.expr77.specs.Gathering.{keep, Gathered, with_item, gather}
+use Rattle.tree77.specs.Lexemes.{Lexeme, Part, symbol_of, part_of, parts_from, depth_behind, is_lower, first_lowest}
+use Rattle.expr77.specs.LexemeReading.{Stand, at_operand, stand_behind, read_lexeme, read_lexemes, lexemes_of}
+use Rattle.expr77.specs.Gathering.{keep, Gathered, with_lexemes}
+
+-- ---- lexemes one after another
 
 -- parts behind others
 keep_append : (k : Option Part) (ps qs : List Part) → keep k (ps ++ qs) ≡ keep (keep k ps) qs
@@ -17,46 +19,42 @@ keep_append k [] qs = refl
 keep_append None (p ∷ ps) qs = keep_append (Some p) ps qs
 keep_append (Some k) (p ∷ ps) qs = keep_append (if is_lower p k then Some p else Some k) ps qs
 
--- all items, gathered
-abbrev pub all_items : Gathered → ℕ → List Item → Gathered
-all_items g depth is = record { symbols = g.symbols ++ map symbol_of is; lowest = keep g.lowest (parts_from depth is) }
-
-one_more : (g : Gathered) (depth : ℕ) (i : Item) (is : List Item) → all_items (with_item g depth i) (depth_behind depth i) is ≡ all_items g depth (i ∷ is)
+-- one lexeme, and then the others
+pub one_more : (g : Gathered) (depth : ℕ) (i : Lexeme) (is : List Lexeme) → with_lexemes (with_lexemes g depth (i ∷ [])) (depth_behind depth i) is ≡ with_lexemes g depth (i ∷ is)
 one_more g depth i is =
-    ap (λ s. record { symbols = s; lowest = keep (keep g.lowest (part_of depth i)) (parts_from (depth_behind depth i) is) }) (append_assoc g.symbols (symbol_of i ∷ []) (map symbol_of is))
+    ap (λ s. record { symbols = s; lowest = keep (keep g.lowest (part_of depth i ++ [])) (parts_from (depth_behind depth i) is) }) (append_assoc g.symbols (symbol_of i ∷ []) (map symbol_of is))
+    ∙ ap (λ ps. record { symbols = g.symbols ++ symbol_of i ∷ map symbol_of is; lowest = keep (keep g.lowest ps) (parts_from (depth_behind depth i) is) }) (append-nil (part_of depth i))
     ∙ ap (λ k. record { symbols = g.symbols ++ symbol_of i ∷ map symbol_of is; lowest = k }) (sym (keep_append g.lowest (part_of depth i) (parts_from (depth_behind depth i) is)))
 
-nothing_more : (g : Gathered) (depth n : ℕ) (s : Stand) → gather g depth n s [] ≡ option_map (all_items g depth) (read_items n s [])
-nothing_more g depth n s = ap (λ ss. Some (record { symbols = ss; lowest = g.lowest })) (sym (append-nil g.symbols))
+-- none more
+pub none_more : (g : Gathered) (depth : ℕ) → with_lexemes g depth [] ≡ g
+none_more g depth = ap (λ s. record { symbols = s; lowest = g.lowest }) (append-nil g.symbols)
 
-mapped_more : (g : Gathered) (depth : ℕ) (i : Item) (more : Option (List Item))
-    → option_map (all_items (with_item g depth i) (depth_behind depth i)) more ≡ option_map (all_items g depth) (option_map (λ is. i ∷ is) more)
-mapped_more g depth i None = refl
-mapped_more g depth i (Some is) = ap Some (one_more g depth i is)
-
--- gathering is reading the items, and taking all of them
-pub gathers : (g : Gathered) (depth n : ℕ) (s : Stand) (ts : List Token) → gather g depth n s ts ≡ option_map (all_items g depth) (read_items n s ts)
-gathers g depth n s [] = nothing_more g depth n s
-gathers g depth zero s (t ∷ ts) = refl
-gathers g depth (suc n) s (t ∷ ts) = go (λ i rest. gathers (with_item g depth i) (depth_behind depth i) n (stand_behind i) rest) (read_item s (t ∷ ts))
+-- a lexeme that is read, and then the others
+pub read_one_more : (g : Gathered) (depth n : ℕ) (s : Stand) (ts rest : List Token) (i : Lexeme) → read_lexeme s ts ≡ Some (i, rest)
+    → option_map (with_lexemes (with_lexemes g depth (i ∷ [])) (depth_behind depth i)) (read_lexemes n (stand_behind i) rest) ≡ option_map (with_lexemes g depth) (read_lexemes (suc n) s ts)
+unfolding read_lexeme
+read_one_more g depth n s [] rest i e = absurd cc
+read_one_more g depth n s (t ∷ ts) rest i e =
+    go (read_lexemes n (stand_behind i) rest)
+    ∙ sym (ap (λ (found : Option (Lexeme × List Token)). option_map (with_lexemes g depth) (option_and_then (λ (p : Lexeme × List Token). option_map (λ is. p.0 ∷ is) (read_lexemes n (stand_behind p.0) p.1)) found)) e)
   where
-    go : ((i : Item) (rest : List Token) → gather (with_item g depth i) (depth_behind depth i) n (stand_behind i) rest ≡ option_map (all_items (with_item g depth i) (depth_behind depth i)) (read_items n (stand_behind i) rest))
-        → (found : Option (Item × List Token)) → option_and_then (λ (p : Item × List Token). gather (with_item g depth p.0) (depth_behind depth p.0) n (stand_behind p.0) p.1) found
-        ≡ option_map (all_items g depth) (option_and_then (λ (p : Item × List Token). option_map (λ is. p.0 ∷ is) (read_items n (stand_behind p.0) p.1)) found)
-    go more None = refl
-    go more (Some p) = more p.0 p.1 ∙ mapped_more g depth p.0 (read_items n (stand_behind p.0) p.1)
+    go : (o : Option (List Lexeme)) → option_map (with_lexemes (with_lexemes g depth (i ∷ [])) (depth_behind depth i)) o ≡ option_map (with_lexemes g depth) (option_map (λ is. i ∷ is) o)
+    go None = refl
+    go (Some is) = ap Some (one_more g depth i is)
 
--- one turn
-pub gather_step : (g : Gathered) (depth n k : ℕ) (s : Stand) (ts rest : List Token) (i : Item) → k < n → read_item s ts ≡ Some (i, rest)
-    → gather g depth (n - k) s ts ≡ gather (with_item g depth i) (depth_behind depth i) (n - (k + 1)) (stand_behind i) rest
-unfolding read_item
-gather_step g depth n k s [] rest i lt is = absurd cc
-gather_step g depth n k s (t ∷ ts) rest i lt is =
-    ap (λ m. gather g depth m s (t ∷ ts)) (turns n k lt)
-    ∙ ap (λ (found : Option (Item × List Token)). option_and_then (λ (p : Item × List Token). gather (with_item g depth p.0) (depth_behind depth p.0) (n - (k + 1)) (stand_behind p.0) p.1) found) is
-  where
-    turns : (n k : ℕ) → k < n → n - k ≡ suc (n - (k + 1))
-    turns n k lt = omega (arith, lt)
+-- tokens that begin no lexeme are none
+pub no_lexeme : (n : ℕ) (s : Stand) (t : Token) (ts : List Token) → read_lexeme s (t ∷ ts) ≡ None → read_lexemes (suc n) s (t ∷ ts) ≡ None
+no_lexeme n s t ts e = ap (option_and_then (λ (p : Lexeme × List Token). option_map (λ is. p.0 ∷ is) (read_lexemes n (stand_behind p.0) p.1))) e
+
+-- all lexemes, in as many turns as there are tokens
+pub all_left : (g : Gathered) (depth n : ℕ) (ts : List Token) → n ≡ length ts → option_map (with_lexemes g depth) (read_lexemes n at_operand ts) ≡ option_map (with_lexemes g depth) (lexemes_of ts)
+unfolding lexemes_of
+all_left g depth n ts turns = ap (λ n. option_map (with_lexemes g depth) (read_lexemes n at_operand ts)) turns
+
+-- a turn that is left
+pub turn : (n k : ℕ) → k < n → n - k ≡ suc (n - (k + 1))
+turn n k lt = omega (arith, lt)
 
 -- ---- the lowest part
 
@@ -87,6 +85,10 @@ keeps k (p ∷ ps) = go (keeps p ps) (keeps k ps) (is_lower p k) refl (list_any 
         by_k ∙ ap (λ b. if b then first_lowest ps else Some k) e ∙ sym (ap (λ b. if b then first_lowest ps else Some p) (any_lower p k ps is e)) ∙ sym (ap (λ b. if b then first_lowest (p ∷ ps) else Some k) e)
     go by_p by_k false is false e = by_k ∙ ap (λ b. if b then first_lowest ps else Some k) e ∙ sym (ap (λ b. if b then first_lowest (p ∷ ps) else Some k) e)
 
-pub keeps_lowest : (ps : List Part) → keep None ps ≡ first_lowest ps
+keeps_lowest : (ps : List Part) → keep None ps ≡ first_lowest ps
 keeps_lowest [] = refl
 keeps_lowest (p ∷ ps) = keeps p ps
+
+-- the lowest of some parts, carried on, is the lowest of them with the others behind them
+pub keeps_on : (before ps : List Part) → keep (first_lowest before) ps ≡ first_lowest (before ++ ps)
+keeps_on before ps = ap (λ k. keep k ps) (sym (keeps_lowest before)) ∙ sym (keep_append None before ps) ∙ keeps_lowest (before ++ ps)

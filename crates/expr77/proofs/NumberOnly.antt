@@ -4,13 +4,14 @@ use Rattle.std.specs.Prelude.{if◌then◌else◌}
 use Rattle.std.specs.List.{list_all}
 use Rattle.std.specs.Option.{option_map, option_and_then, option_or}
 use Rattle.std.proofs.lemmas.Bool.{and_parts, and_from, or_parts}
+use Rattle.std.proofs.lemmas.List.{append-nil}
 use Rattle.text_base.specs.Chars.{is_upper, is_digit, is_name_byte}
 use Rattle.text_base.specs.Pieces.{Piece, plain, whole as kept_text, broken}
 use Rattle.text_base.proofs.CharTests.{digits_are_name_bytes}
 use Rattle.tree77.specs.Kinds.{is_word, is_number}
 use Rattle.tree77.specs.Tokens.{Token, run, digits, mark, is_mark, StopsAt, IsCut, cut_run, cut_digits, cut_mark}
-use Rattle.tree77.specs.Items.{IsSign, IsExponent, IsReal, real_point, real_exponent, IsPart, IsComplex}
-use Rattle.expr77.specs.ItemReading.{behind_mark, or_all, run_here, digits_here, is_exponent_letter, behind_exponent, behind_exponent_run, Number, whole, real, behind_digits, read_number, behind_part, behind_complex}
+use Rattle.tree77.specs.Lexemes.{IsSign, IsExponent, IsReal, real_point, real_exponent, IsPart, IsComplex}
+use Rattle.expr77.specs.LexemeReading.{behind_mark, or_all, run_here, digits_here, is_exponent_letter, behind_exponent, behind_exponent_run, Number, whole, real, behind_digits, read_number, behind_part, behind_complex}
 
 -- the token of a mark
 abbrev pub marked : ℕ → Token
@@ -82,20 +83,21 @@ pub record ReadNumber (text : List ℕ) (rest : List Piece) (more : List Token) 
   pub shorter : length more < length tokens
   pub front : (c : ℕ) → (0 == c) ≡ false → (46 == c) ≡ false → behind_mark c tokens ≡ None
 
--- no mark stands where digits stand
-number_front : (u : List ℕ) (more : List Token) (c : ℕ) → (0 == c) ≡ false → behind_mark c (number_token u ∷ more) ≡ None
-number_front u more c e = ap (λ b. if b then Some more else None) e
+-- digits, and what follows them and belongs to their number
+digits_first : (before tail : List ℕ) (rest : List Piece) (tokens more : List Token) (n : Number) → is_number before ≡ true → IsCut (map plain tail ++ rest) tokens → StopsAt is_digit (map plain tail ++ rest)
+    → behind_digits before tokens (behind_exponent tokens) (behind_mark 46 tokens) ≡ (n, more) → length more ≤ length tokens → ReadNumber (before ++ tail) rest more n
+unfolding read_number
+digits_first before tail rest tokens more n number cut stops read shorter = record {
+  tokens = number_token before ∷ tokens;
+  cut = subst (λ (x : List Piece). IsCut x (number_token before ∷ tokens)) (sym (plain_append before tail rest)) (number_cut before (map plain tail ++ rest) tokens number stops cut);
+  read = ap Some read;
+  shorter = omega (arith, shorter);
+  front = λ c zero point. ap (λ b. if b then Some tokens else None) zero;
+}
 
 -- an integer constant is read as its digits
 pub whole_read : (u : List ℕ) (rest : List Piece) (more : List Token) → is_number u ≡ true → Behind rest more → ReadNumber u rest more (whole u)
-unfolding read_number
-whole_read u rest more number b = record {
-  tokens = number_token u ∷ more;
-  cut = number_cut u rest more number (digits_stop rest b.stops) b.cut;
-  read = ap Some (b.alone u);
-  shorter = omega arith;
-  front = λ c zero point. number_front u more c zero;
-}
+whole_read u rest more number b = subst (λ t. ReadNumber t rest more (whole u)) (append-nil u) (digits_first u [] rest more more (whole u) number b.cut (digits_stop rest b.stops) (b.alone u) (omega arith))
 
 -- the tokens of an exponent, and what is read of them
 record ReadExponent (text : List ℕ) (rest : List Piece) (more : List Token) : Type 0 where
@@ -194,58 +196,28 @@ read_fraction after exponent rest more number ending b =
 -- digits before it too
 read_both : (before after exponent : List ℕ) (rest : List Piece) (more : List Token) → is_number before ≡ true → is_number after ≡ true → (exponent ≡ []) ⊎ IsExponent exponent → Behind rest more
     → ReadNumber (before ++ 46 ∷ (after ++ exponent)) rest more real
-unfolding read_number
 read_both before after exponent rest more number fraction ending b =
     let t = tail_read exponent rest more ending b in
     let shorter : length more ≤ length t.tokens = t.shorter in
     let point : IsCut (plain 46 ∷ (map plain (after ++ exponent) ++ rest)) (marked 46 ∷ number_token after ∷ t.tokens) =
     cut_mark 46 (ap (λ (x : List Piece). plain 46 ∷ x) (plain_append after exponent rest)) refl (number_cut after (map plain exponent ++ rest) t.tokens fraction t.stops t.cut) refl in
-    record {
-      tokens = number_token before ∷ marked 46 ∷ number_token after ∷ t.tokens;
-      cut = subst (λ (x : List Piece). IsCut x (number_token before ∷ marked 46 ∷ number_token after ∷ t.tokens)) (sym (plain_append before (46 ∷ (after ++ exponent)) rest))
-          (number_cut before (plain 46 ∷ (map plain (after ++ exponent) ++ rest)) (marked 46 ∷ number_token after ∷ t.tokens) number refl point);
-      read = ap (λ (ts : List Token). Some (real, ts)) t.read;
-      shorter = omega arith;
-      front = λ c zero point. number_front before (marked 46 ∷ number_token after ∷ t.tokens) c zero;
-    }
+    digits_first before (46 ∷ (after ++ exponent)) rest (marked 46 ∷ number_token after ∷ t.tokens) more real number point refl (ap (λ (ts : List Token). (real, ts)) t.read) (omega arith)
 
 -- digits and a point
 read_pointed : (before exponent : List ℕ) (rest : List Piece) (more : List Token) → is_number before ≡ true → (exponent ≡ []) ⊎ IsExponent exponent → Behind rest more
     → ReadNumber (before ++ 46 ∷ exponent) rest more real
-unfolding read_number
-read_pointed before exponent rest more number (inl none) b = subst (λ (t : List ℕ). ReadNumber (before ++ 46 ∷ t) rest more real) (sym none) (record {
-  tokens = number_token before ∷ marked 46 ∷ more;
-  cut = subst (λ (x : List Piece). IsCut x (number_token before ∷ marked 46 ∷ more)) (sym (plain_append before (46 ∷ []) rest))
-      (number_cut before (plain 46 ∷ rest) (marked 46 ∷ more) number refl (cut_mark 46 refl refl b.cut refl));
-  read = rw (no_exponent rest more b, b.no_run, b.no_digits) refl;
-  shorter = omega arith;
-  front = λ c zero point. number_front before (marked 46 ∷ more) c zero;
-})
+read_pointed before exponent rest more number (inl none) b = subst (λ (t : List ℕ). ReadNumber (before ++ 46 ∷ t) rest more real) (sym none)
+    (digits_first before (46 ∷ []) rest (marked 46 ∷ more) more real number (cut_mark 46 refl refl b.cut refl) refl (rw (no_exponent rest more b, b.no_run, b.no_digits) refl) (omega arith))
 read_pointed before exponent rest more number (inr ending) b =
     let e = exponent_read exponent rest more ending b in
     let shorter : length more ≤ length e.tokens = e.shorter in
-    record {
-      tokens = number_token before ∷ marked 46 ∷ e.tokens;
-      cut = subst (λ (x : List Piece). IsCut x (number_token before ∷ marked 46 ∷ e.tokens)) (sym (plain_append before (46 ∷ exponent) rest))
-          (number_cut before (plain 46 ∷ (map plain exponent ++ rest)) (marked 46 ∷ e.tokens) number refl (cut_mark 46 refl refl e.cut refl));
-      read = rw e.read refl;
-      shorter = omega arith;
-      front = λ c zero point. number_front before (marked 46 ∷ e.tokens) c zero;
-    }
+    digits_first before (46 ∷ exponent) rest (marked 46 ∷ e.tokens) more real number (cut_mark 46 refl refl e.cut refl) refl (rw e.read refl) (omega arith)
 
 -- digits and an exponent
 read_powered : (before exponent : List ℕ) (rest : List Piece) (more : List Token) → is_number before ≡ true → IsExponent exponent → Behind rest more → ReadNumber (before ++ exponent) rest more real
-unfolding read_number
 read_powered before exponent rest more number ending b =
     let e = exponent_read exponent rest more ending b in
-    let shorter : length more ≤ length e.tokens = e.shorter in
-    record {
-      tokens = number_token before ∷ e.tokens;
-      cut = subst (λ (x : List Piece). IsCut x (number_token before ∷ e.tokens)) (sym (plain_append before exponent rest)) (number_cut before (map plain exponent ++ rest) e.tokens number e.stops e.cut);
-      read = rw e.read refl;
-      shorter = omega arith;
-      front = λ c zero point. number_front before e.tokens c zero;
-    }
+    digits_first before exponent rest e.tokens more real number e.cut e.stops (rw e.read refl) e.shorter
 
 -- a real constant is read to its end
 pub real_read : (text : List ℕ) (rest : List Piece) (more : List Token) → IsReal text → Behind rest more → ReadNumber text rest more real

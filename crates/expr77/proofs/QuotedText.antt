@@ -1,7 +1,7 @@
 -- A character constant is read character by character.
 use Rattle.std.proofs.Common.{◌≡◌, ℕ, ◌+◌, ◌<◌, Bool, false, List, ◌∷◌, length, get_or, drop, Option, Some, None, sym, ◌∙◌, subst}
 use Rattle.std.proofs.lemmas.List.{at_drop_more}
-use Rattle.expr77.specs.ItemReading.{read_quoted, with_quoted}
+use Rattle.expr77.specs.LexemeReading.{read_quoted, with_quoted}
 
 -- one character more
 pub quoted_more : (v w text : List ℕ) (p : Bool) (i : ℕ) (next : Option Bool) → i < length text → with_quoted v (Some p) (drop i text) ≡ read_quoted false text

@@ -1,5 +1,5 @@
 -- Expressions stop at the first mark outside parentheses that stops one, and begin with what begins one.
-use Rattle.std.proofs.Common.{◌≡◌, ◌⊎◌, inl, inr, ℕ, zero, suc, Bool, true, false, not, ◌&&◌, ◌==◌, List, [], ◌∷◌, ◌++◌, map, codes, refl, sym, ap, ◌∙◌, subst, append_assoc, arith}
+use Rattle.std.proofs.Common.{◌≡◌, ◌⊎◌, inl, inr, ℕ, suc, Bool, true, false, not, ◌&&◌, ◌==◌, List, [], ◌∷◌, ◌++◌, map, length, codes, Some, refl, sym, ap, ◌∙◌, subst, append_assoc, arith}
 use Rattle.std.specs.Prelude.{if◌then◌else◌}
 use Rattle.std.specs.List.{list_all}
 use Rattle.std.proofs.lemmas.Bool.{and_parts, and_from}
@@ -7,14 +7,17 @@ use Rattle.std.proofs.lemmas.Bool.Decides.{nat_tests}
 use Rattle.std.proofs.lemmas.List.Folds.{list_all-append}
 use Rattle.std.proofs.lemmas.List.{map-append, append-nil}
 use Rattle.std.proofs.Math.Bool.{and-false}
+use Rattle.std.proofs.lemmas.Option.{same_Some}
 use Rattle.text_base.specs.Chars.{is_upper, is_digit, is_name_byte}
 use Rattle.text_base.specs.Pieces.{Piece, plain, whole, broken}
 use Rattle.tree77.specs.Kinds.{is_word, is_number, open_after}
-use Rattle.tree77.specs.Syntax.{BinaryOp, power, times, over, add, subtract, concat, less, less_equal, equal, not_equal, greater, greater_equal, conjunction, disjunction, equivalence, nonequivalence, Expr}
+use Rattle.text_base.specs.Trees.{BinaryOp, power, times, over, add, subtract, concat, less, less_equal, equal, not_equal, greater, greater_equal, conjunction, disjunction, equivalence, nonequivalence, Expr}
+use Rattle.tree77.specs.Expressions as symbol
 use Rattle.tree77.specs.Expressions.{Symbol, is_sum}
-use Rattle.tree77.specs.Items.{Item, integer, constant, logical, name, alternate, operator, not_sign, opening, closing, comma, colon, IsSign, IsExponent, IsReal, real_point, real_exponent, IsPart, IsComplex, IsHollerith, IsConstant, is_label, operator_text, logical_text, IsItem, item_integer, item_constant, item_logical, item_characters, item_name, item_alternate, item_operator, item_not, item_open, item_close, item_comma, item_colon, AreItems, items_none, items_more, symbol_of, IsWide}
+use Rattle.tree77.specs.Lexemes.{Lexeme, integer, constant, logical, characters, name, alternate, operator, not_sign, opening, closing, comma, colon, IsSign, IsExponent, IsReal, real_point, real_exponent, IsPart, IsComplex, IsHollerith, IsConstant, is_label, operator_text, logical_text, IsLexeme, lexeme_integer, lexeme_constant, lexeme_logical, lexeme_characters, lexeme_name, lexeme_alternate, lexeme_operator, lexeme_not, lexeme_open, lexeme_close, lexeme_comma, lexeme_colon, AreLexemes, lexemes_none, lexemes_more, symbol_of, IsWideExpression}
 use Rattle.tree77.specs.Stops.{is_stop, Stops, until_stop, begins_expression, Begins}
-use Rattle.expr77.proofs.Nesting.{starts_at, starts, closed, closed_at_end, expression_starts, expression_closed}
+use Rattle.expr77.specs.LexemeReading.{Stand, at_operand, is_after}
+use Rattle.expr77.proofs.Standing.{stand_after, levels_behind, fits, fits_end, first_fits, expression_fits}
 
 -- ---- characters
 
@@ -213,7 +216,7 @@ logical_other : (b : Bool) → AreOther (logical_text b)
 logical_other true = refl
 logical_other false = refl
 
--- ---- items
+-- ---- lexemes
 
 -- a complex constant closes the parenthesis that it opens
 complex_passes : (n : ℕ) (u : List ℕ) → IsComplex u → Passes (map plain u) n n
@@ -233,103 +236,96 @@ constant_passes n u (inl is) = text_passes n u (real_other u is)
 constant_passes n u (inr (inl is)) = complex_passes n u is
 constant_passes n u (inr (inr is)) = text_passes n u (hollerith_other u is)
 
--- an item where n parentheses are open, behind which its symbol leaves these others
-record ItemPasses (first : List Piece) (n : ℕ) (others : List Symbol) : Type 0 where
-  behind : ℕ
-  passes : Passes first n behind
-  closes : closed behind others ≡ true
+-- a lexeme of a text that leaves open what was open
+stays : (first : List Piece) (u : List ℕ) (n m : ℕ) → first ≡ map plain u → n ≡ m → Passes (map plain u) n n → Passes first n m
+stays first u n m front same passes = subst (λ x. Passes x n m) (sym front) (subst (Passes (map plain u) n) same passes)
 
--- an item of a text that leaves open what was open
-stays : (first : List Piece) (u : List ℕ) (i j : Item) (n : ℕ) (others : List Symbol) → first ≡ map plain u → i ≡ j → Passes (map plain u) n n → closed n (symbol_of j ∷ others) ≡ closed n others
-    → closed n (symbol_of i ∷ others) ≡ true → ItemPasses first n others
-stays first u i j n others front is passes same e = record {
-  behind = n;
-  passes = subst (λ x. Passes x n n) (sym front) passes;
-  closes = sym same ∙ ap (λ x. closed n (symbol_of x ∷ others)) (sym is) ∙ e;
-}
+-- as many are open
+same_length : (ls levels : List Bool) → Some ls ≡ Some levels → length ls ≡ length levels
+same_length ls levels e = ap length (same_Some ls levels e)
 
--- an opening parenthesis
-opening_item : (first : List Piece) (i : Item) (n : ℕ) (others : List Symbol) → first ≡ map plain (codes "(") → i ≡ opening → closed n (symbol_of i ∷ others) ≡ true → ItemPasses first n others
-opening_item first i n others front is e = record {
-  behind = suc n;
-  passes = subst (λ x. Passes x n (suc n)) (sym front) (open_passes n);
-  closes = ap (λ x. closed n (symbol_of x ∷ others)) (sym is) ∙ e;
-}
+-- a closing parenthesis stands in one
+closing_lexeme : (first : List Piece) (s : Stand) (ls levels : List Bool) → first ≡ map plain (codes ")") → levels_behind s ls symbol.closing ≡ Some levels → Passes first (length ls) (length levels)
+closing_lexeme first s [] levels front e = absurd cc
+closing_lexeme first s (l ∷ ls) levels front e = subst (λ x. Passes x (suc (length ls)) (length levels)) (sym front) (subst (Passes (plain 41 ∷ []) (suc (length ls))) (same_length ls levels e) (close_passes (length ls)))
 
--- a closing one, which stands in parentheses
-closing_item : (first : List Piece) (i : Item) (n : ℕ) (others : List Symbol) → first ≡ map plain (codes ")") → i ≡ closing → closed n (symbol_of i ∷ others) ≡ true → ItemPasses first n others
-closing_item first i zero others front is e =
-    let none : false ≡ true = ap (λ x. closed 0 (symbol_of x ∷ others)) (sym is) ∙ e in
-    absurd cc
-closing_item first i (suc n) others front is e = record {
-  behind = n;
-  passes = subst (λ x. Passes x (suc n) n) (sym front) (close_passes n);
-  closes = ap (λ x. closed (suc n) (symbol_of x ∷ others)) (sym is) ∙ e;
-}
+-- so do a comma and a colon
+inner_lexeme : (first : List Piece) (c : ℕ) (l : Bool) (ls levels : List Bool) → first ≡ plain c ∷ [] → ((m : ℕ) → open_after (suc m) c ≡ suc m) → Some (l ∷ ls) ≡ Some levels → Passes first (suc (length ls)) (length levels)
+inner_lexeme first c l ls levels front inside e =
+    subst (λ x. Passes x (suc (length ls)) (length levels)) (sym front) (subst (Passes (plain c ∷ []) (suc (length ls))) (same_length (l ∷ ls) levels e) (inner_passes (length ls) c (inside (length ls))))
 
--- a comma or a colon
-inner_item : (first : List Piece) (c : ℕ) (i j : Item) (n : ℕ) (others : List Symbol) → first ≡ plain c ∷ [] → i ≡ j → ((m : ℕ) → open_after (suc m) c ≡ suc m)
-    → closed 0 (symbol_of j ∷ others) ≡ false → ((m : ℕ) → closed (suc m) (symbol_of j ∷ others) ≡ closed (suc m) others) → closed n (symbol_of i ∷ others) ≡ true → ItemPasses first n others
-inner_item first c i j zero others front is stays outside within e =
-    let none : false ≡ true = sym outside ∙ ap (λ x. closed 0 (symbol_of x ∷ others)) (sym is) ∙ e in
-    absurd cc
-inner_item first c i j (suc n) others front is stays outside within e = record {
-  behind = suc n;
-  passes = subst (λ x. Passes x (suc n) (suc n)) (sym front) (inner_passes n c (stays n));
-  closes = sym (within n) ∙ ap (λ x. closed (suc n) (symbol_of x ∷ others)) (sym is) ∙ e;
-}
+comma_lexeme : (first : List Piece) (s : Stand) (ls levels : List Bool) → first ≡ map plain (codes ",") → levels_behind s ls symbol.comma ≡ Some levels → Passes first (length ls) (length levels)
+comma_lexeme first s [] levels front e = absurd cc
+comma_lexeme first s (false ∷ ls) levels front e = absurd cc
+comma_lexeme first s (true ∷ ls) levels front e = inner_lexeme first 44 true ls levels front (λ m. refl) e
 
--- no item stops an expression where its symbol may stand
-item_passes : (first : List Piece) (i : Item) → IsItem first i → (n : ℕ) (others : List Symbol) → closed n (symbol_of i ∷ others) ≡ true → ItemPasses first n others
-item_passes first i (item_integer u front number is) n others e = stays first u i (integer u) n others front is (text_passes n u (number_other u number)) refl e
-item_passes first i (item_constant u front refused is) n others e = stays first u i constant n others front is (constant_passes n u refused) refl e
-item_passes first i (item_logical b front is) n others e = stays first (logical_text b) i (logical b) n others front is (text_passes n (logical_text b) (logical_other b)) refl e
-item_passes first i (item_characters within value front quoted some is) n others e = record {
-  behind = n;
-  passes = subst (λ x. Passes x n n) (sym front) (λ rest. refl);
-  closes = ap (λ x. closed n (symbol_of x ∷ others)) (sym is) ∙ e;
-}
-item_passes first i (item_name u front word is) n others e = stays first u i (name u) n others front is (text_passes n u (word_other u word)) refl e
-item_passes first i (item_alternate u front label is) n others e = stays first (42 ∷ u) i alternate n others front is (text_passes n (42 ∷ u) (label_other u label)) refl e
-item_passes first i (item_operator o front is) n others e = stays first (operator_text o) i (operator o) n others front is (text_passes n (operator_text o) (operator_other o)) refl e
-item_passes first i (item_not front is) n others e = stays first (codes ".NOT.") i not_sign n others front is (text_passes n (codes ".NOT.") refl) refl e
-item_passes first i (item_open front is) n others e = opening_item first i n others front is e
-item_passes first i (item_close front is) n others e = closing_item first i n others front is e
-item_passes first i (item_comma front is) n others e = inner_item first 44 i comma n others front is (λ m. refl) refl (λ m. refl) e
-item_passes first i (item_colon front is) n others e = inner_item first 58 i colon n others front is (λ m. refl) refl (λ m. refl) e
+colon_lexeme : (first : List Piece) (s : Stand) (ls levels : List Bool) → first ≡ map plain (codes ":") → levels_behind s ls symbol.colon ≡ Some levels → Passes first (length ls) (length levels)
+colon_lexeme first s [] levels front e = absurd cc
+colon_lexeme first s (l ∷ ls) levels front e = inner_lexeme first 58 l ls levels front (λ m. refl) e
 
--- ---- all items
+-- no lexeme stops an expression where its symbol may stand
+lexeme_passes : (first : List Piece) (i : Lexeme) → IsLexeme first i → (s : Stand) (ls levels : List Bool) → levels_behind s ls (symbol_of i) ≡ Some levels → Passes first (length ls) (length levels)
+lexeme_passes first i lexeme s ls levels e = go lexeme
+  where
+    n : ℕ
+    n = length ls
+
+    -- the same of the lexeme that it is
+    at : (j : Lexeme) → i ≡ j → levels_behind s ls (symbol_of j) ≡ Some levels
+    at j is = ap (λ x. levels_behind s ls (symbol_of x)) (sym is) ∙ e
+
+    -- a text that leaves open what was open
+    text : (u : List ℕ) (j : Lexeme) → first ≡ map plain u → i ≡ j → levels_behind s ls (symbol_of j) ≡ Some ls → Passes (map plain u) n n → Passes first n (length levels)
+    text u j front is same passes = stays first u n (length levels) front (same_length ls levels (sym same ∙ at j is)) passes
+
+    go : IsLexeme first i → Passes first n (length levels)
+    go (lexeme_integer u front number is) = text u (integer u) front is refl (text_passes n u (number_other u number))
+    go (lexeme_constant u front refused is) = text u constant front is refl (constant_passes n u refused)
+    go (lexeme_logical b front is) = text (logical_text b) (logical b) front is refl (text_passes n (logical_text b) (logical_other b))
+    go (lexeme_characters within value front quoted some is) =
+        subst (λ x. Passes x n (length levels)) (sym front) (subst (Passes (whole (39 ∷ (within ++ 39 ∷ [])) ∷ []) n) (same_length ls levels (at (characters value) is)) (λ rest. refl))
+    go (lexeme_name u front word is) = text u (name u) front is refl (text_passes n u (word_other u word))
+    go (lexeme_alternate u front label is) = text (42 ∷ u) alternate front is refl (text_passes n (42 ∷ u) (label_other u label))
+    go (lexeme_operator o front is) = text (operator_text o) (operator o) front is refl (text_passes n (operator_text o) (operator_other o))
+    go (lexeme_not front is) = text (codes ".NOT.") not_sign front is refl (text_passes n (codes ".NOT.") refl)
+    go (lexeme_open front is) = subst (λ x. Passes x n (length levels)) (sym front) (subst (Passes (plain 40 ∷ []) n) (same_length (is_after s ∷ ls) levels (at opening is)) (open_passes n))
+    go (lexeme_close front is) = closing_lexeme first s ls levels front (at closing is)
+    go (lexeme_comma front is) = comma_lexeme first s ls levels front (at comma is)
+    go (lexeme_colon front is) = colon_lexeme first s ls levels front (at colon is)
+
+-- ---- all lexemes
 
 -- where none is open, the search ends at what stops an expression
-stops_here : (n : ℕ) (rest : List Piece) → closed_at_end n ≡ true → Stops rest → until_stop n rest ≡ ([], rest)
-stops_here zero [] closes stops = refl
-stops_here zero (plain c ∷ rest) closes stops = ap (λ b. if b then ([], plain c ∷ rest) else with_before (plain c ∷ []) (until_stop (open_after 0 c) rest)) stops
-stops_here zero (whole t ∷ rest) closes stops = absurd stops
-stops_here zero (broken t ∷ rest) closes stops = absurd stops
-stops_here (suc n) rest closes stops = absurd cc
+stops_here : (s : Stand) (ls : List Bool) (rest : List Piece) → fits_end s ls ≡ true → Stops rest → until_stop (length ls) rest ≡ ([], rest)
+stops_here s [] [] closes stops = refl
+stops_here s [] (plain c ∷ rest) closes stops = ap (λ b. if b then ([], plain c ∷ rest) else with_before (plain c ∷ []) (until_stop (open_after 0 c) rest)) stops
+stops_here s [] (whole t ∷ rest) closes stops = absurd stops
+stops_here s [] (broken t ∷ rest) closes stops = absurd stops
+stops_here s (l ∷ ls) rest closes stops = absurd cc
 
--- where the items close what is open, the search stops behind them
-items_stop : (pieces : List Piece) (items : List Item) → AreItems pieces items → (n : ℕ) (rest : List Piece) → closed n (map symbol_of items) ≡ true → Stops rest → until_stop n (pieces ++ rest) ≡ (pieces, rest)
-items_stop pieces items (items_none none empty) n rest closes stops =
-    let at_end : closed_at_end n ≡ true = ap (λ x. closed n (map symbol_of x)) (sym empty) ∙ closes in
-    ap (λ x. until_stop n (x ++ rest)) none ∙ stops_here n rest at_end stops ∙ ap (λ (x : List Piece). (x, rest)) (sym none)
-items_stop pieces items (items_more {first = first} {rest = behind} {others = others} {i = i} front item follow is) n rest closes stops =
-    let p = item_passes first i item n (map symbol_of others) (ap (λ x. closed n (map symbol_of x)) (sym is) ∙ closes) in
-    ap (λ x. until_stop n (x ++ rest)) front
-    ∙ ap (until_stop n) (append_assoc first behind rest)
-    ∙ p.passes (behind ++ rest)
-    ∙ ap (with_before first) (items_stop behind others follow p.behind rest p.closes stops)
+-- where the lexemes close what is open, the search stops behind them
+lexemes_stop : (pieces : List Piece) (lexemes : List Lexeme) → AreLexemes pieces lexemes → (s : Stand) (ls : List Bool) (rest : List Piece) → fits s ls (map symbol_of lexemes) ≡ true → Stops rest
+    → until_stop (length ls) (pieces ++ rest) ≡ (pieces, rest)
+lexemes_stop pieces lexemes (lexemes_none none empty) s ls rest fitting stops =
+    let at_end : fits_end s ls ≡ true = ap (λ x. fits s ls (map symbol_of x)) (sym empty) ∙ fitting in
+    ap (λ x. until_stop (length ls) (x ++ rest)) none ∙ stops_here s ls rest at_end stops ∙ ap (λ (x : List Piece). (x, rest)) (sym none)
+lexemes_stop pieces lexemes (lexemes_more {first = first} {rest = behind} {others = others} {i = i} front lexeme follow is) s ls rest fitting stops =
+    let f = first_fits s ls (symbol_of i) (map symbol_of others) (ap (λ x. fits s ls (map symbol_of x)) (sym is) ∙ fitting) in
+    ap (λ x. until_stop (length ls) (x ++ rest)) front
+    ∙ ap (until_stop (length ls)) (append_assoc first behind rest)
+    ∙ lexeme_passes first i lexeme s ls f.levels f.are (behind ++ rest)
+    ∙ ap (with_before first) (lexemes_stop behind others follow (stand_after (symbol_of i)) f.levels rest f.others stops)
     ∙ ap (λ (x : List Piece). (x, rest)) (sym front)
 
 -- an expression ends at the first mark outside parentheses that stops one
-pub wide_stops : (pieces rest : List Piece) (items : List Item) (x : Expr) → IsWide pieces items x → Stops rest → until_stop 0 (pieces ++ rest) ≡ (pieces, rest)
-wide_stops pieces rest items x wide stops = items_stop pieces items wide.spelled 0 rest (expression_closed (map symbol_of items) x wide.formed) stops
+pub wide_stops : (pieces rest : List Piece) (lexemes : List Lexeme) (x : Expr) → IsWideExpression pieces lexemes x → Stops rest → until_stop 0 (pieces ++ rest) ≡ (pieces, rest)
+wide_stops pieces rest lexemes x wide stops = lexemes_stop pieces lexemes wide.spelled at_operand [] rest (expression_fits (map symbol_of lexemes) x wide.formed) stops
 
 -- pieces begin with one expression at most that stops
-pub wide_split : (pieces others rest behind : List Piece) (items more : List Item) (x y : Expr) → IsWide pieces items x → IsWide others more y → Stops rest → Stops behind
+pub wide_split : (pieces others rest behind : List Piece) (lexemes more : List Lexeme) (x y : Expr) → IsWideExpression pieces lexemes x → IsWideExpression others more y → Stops rest → Stops behind
     → pieces ++ rest ≡ others ++ behind → (pieces ≡ others) × (rest ≡ behind)
-wide_split pieces others rest behind items more x y wide other stops stops_too is =
-    let same : (pieces, rest) ≡ (others, behind) = sym (wide_stops pieces rest items x wide stops) ∙ ap (until_stop 0) is ∙ wide_stops others behind more y other stops_too in
+wide_split pieces others rest behind lexemes more x y wide other stops stops_too is =
+    let same : (pieces, rest) ≡ (others, behind) = sym (wide_stops pieces rest lexemes x wide stops) ∙ ap (until_stop 0) is ∙ wide_stops others behind more y other stops_too in
     (ap (λ (p : List Piece × List Piece). p.0) same, ap (λ (p : List Piece × List Piece). p.1) same)
 
 -- ---- what an expression begins with
@@ -384,35 +380,39 @@ sign_begins add is = refl
 sign_begins subtract is = refl
 sign_begins _ is = absurd cc
 
--- an item that can't stand first
-not_first : {A : Type 0} (i j : Item) → i ≡ j → starts_at (symbol_of j) ≡ false → starts_at (symbol_of i) ≡ true → A
-not_first i j is off on =
-    let none : false ≡ true = sym off ∙ ap (λ x. starts_at (symbol_of x)) (sym is) ∙ on in
-    absurd cc
+-- a lexeme that may stand first begins as an expression does
+lexeme_begins : (first rest : List Piece) (i : Lexeme) (others : List Symbol) → IsLexeme first i → fits at_operand [] (symbol_of i ∷ others) ≡ true → Begins (first ++ rest)
+lexeme_begins first rest i others lexeme on = go lexeme
+  where
+    -- the same of the lexeme that it is
+    at : (j : Lexeme) → i ≡ j → fits at_operand [] (symbol_of j ∷ others) ≡ true
+    at j is = ap (λ x. fits at_operand [] (symbol_of x ∷ others)) (sym is) ∙ on
 
--- an item that may stand first begins as an expression does
-item_begins : (first rest : List Piece) (i : Item) → IsItem first i → starts_at (symbol_of i) ≡ true → Begins (first ++ rest)
-item_begins first rest i (item_integer u front number is) on = text_begins first rest u front (ap begins_text (sym (append-nil u)) ∙ number_begins u [] number)
-item_begins first rest i (item_constant u front refused is) on = text_begins first rest u front (constant_begins u refused)
-item_begins first rest i (item_logical b front is) on = text_begins first rest (logical_text b) front (logical_begins b)
-item_begins first rest i (item_characters within value front quoted some is) on = subst (λ x. Begins (x ++ rest)) (sym front) tt
-item_begins first rest i (item_name u front word is) on = text_begins first rest u front (word_begins u word)
-item_begins first rest i (item_alternate u front label is) on = not_first i alternate is refl on
-item_begins first rest i (item_operator o front is) on = text_begins first rest (operator_text o) front (sign_begins o (ap (λ x. starts_at (symbol_of x)) (sym is) ∙ on))
-item_begins first rest i (item_not front is) on = text_begins first rest (codes ".NOT.") front refl
-item_begins first rest i (item_open front is) on = text_begins first rest (codes "(") front refl
-item_begins first rest i (item_close front is) on = not_first i closing is refl on
-item_begins first rest i (item_comma front is) on = not_first i comma is refl on
-item_begins first rest i (item_colon front is) on = not_first i colon is refl on
+    never : false ≡ true → Begins (first ++ rest)
+    never e = absurd cc
 
--- so do items of which the first may
-items_begin : (pieces : List Piece) (items : List Item) → AreItems pieces items → starts (map symbol_of items) ≡ true → Begins pieces
-items_begin pieces items (items_none none empty) on =
-    let off : false ≡ true = ap (λ x. starts (map symbol_of x)) (sym empty) ∙ on in
+    go : IsLexeme first i → Begins (first ++ rest)
+    go (lexeme_integer u front number is) = text_begins first rest u front (ap begins_text (sym (append-nil u)) ∙ number_begins u [] number)
+    go (lexeme_constant u front refused is) = text_begins first rest u front (constant_begins u refused)
+    go (lexeme_logical b front is) = text_begins first rest (logical_text b) front (logical_begins b)
+    go (lexeme_characters within value front quoted some is) = subst (λ x. Begins (x ++ rest)) (sym front) tt
+    go (lexeme_name u front word is) = text_begins first rest u front (word_begins u word)
+    go (lexeme_alternate u front label is) = never (at alternate is)
+    go (lexeme_operator o front is) = text_begins first rest (operator_text o) front (sign_begins o (first_fits at_operand [] (symbol.operator o) others (at (operator o) is)).may)
+    go (lexeme_not front is) = text_begins first rest (codes ".NOT.") front refl
+    go (lexeme_open front is) = text_begins first rest (codes "(") front refl
+    go (lexeme_close front is) = never (at closing is)
+    go (lexeme_comma front is) = never (at comma is)
+    go (lexeme_colon front is) = never (at colon is)
+
+-- so do lexemes of which the first may
+lexemes_begin : (pieces : List Piece) (lexemes : List Lexeme) → AreLexemes pieces lexemes → fits at_operand [] (map symbol_of lexemes) ≡ true → Begins pieces
+lexemes_begin pieces lexemes (lexemes_none none empty) on =
+    let off : false ≡ true = ap (λ x. fits at_operand [] (map symbol_of x)) (sym empty) ∙ on in
     absurd cc
-items_begin pieces items (items_more {first = first} {rest = behind} {i = i} front item follow is) on =
-    subst Begins (sym front) (item_begins first behind i item (ap (λ x. starts (map symbol_of x)) (sym is) ∙ on))
+lexemes_begin pieces lexemes (lexemes_more {first = first} {rest = behind} {others = others} {i = i} front lexeme follow is) on =
+    subst Begins (sym front) (lexeme_begins first behind i (map symbol_of others) lexeme (ap (λ x. fits at_operand [] (map symbol_of x)) (sym is) ∙ on))
 
 -- an expression begins with what begins one
-pub wide_begins : (pieces : List Piece) (items : List Item) (x : Expr) → IsWide pieces items x → Begins pieces
-wide_begins pieces items x wide = items_begin pieces items wide.spelled (expression_starts (map symbol_of items) x wide.formed)
+pub wide_begins : (pieces : List Piece) (lexemes : List Lexeme) (x : Expr) → IsWideExpression pieces lexemes x → Begins pieces
+wide_begins pieces lexemes x wide = lexemes_begin pieces lexemes wide.spelled (expression_fits (map symbol_of lexemes) x wide.formed)

@@ -1,10 +1,7 @@
--- The items of an expression one after another: their symbols, and the part that is refused so far.
-use Rattle.std.specs.Prelude.{ℕ, zero, suc, List, [], ◌∷◌, ◌++◌, Option, Some, None, if◌then◌else◌}
-use Rattle.std.specs.Option.{option_and_then}
-use Rattle.tree77.specs.Tokens.{Token}
+-- What is gathered of the lexemes of an expression: their symbols, and the lowest refused part so far.
+use Rattle.std.specs.Prelude.{ℕ, List, [], ◌∷◌, ◌++◌, map, Option, Some, None, if◌then◌else◌}
 use Rattle.tree77.specs.Expressions.{Symbol}
-use Rattle.tree77.specs.Items.{Item, Part, symbol_of, part_of, depth_behind, is_lower}
-use Rattle.expr77.specs.ItemReading.{Stand, stand_behind, read_item}
+use Rattle.tree77.specs.Lexemes.{Lexeme, Part, symbol_of, parts_from, is_lower}
 
 -- the lowest part so far, with further ones behind it
 abbrev pub keep : Option Part → List Part → Option Part
@@ -16,15 +13,10 @@ pub record Gathered : Type 0 where
   pub symbols : List Symbol
   pub lowest : Option Part
 
--- one item more, where so many parentheses are open before it
-abbrev pub with_item : Gathered → ℕ → Item → Gathered
-with_item g depth i = record { symbols = g.symbols ++ symbol_of i ∷ []; lowest = keep g.lowest (part_of depth i) }
+-- further lexemes, where so many parentheses are open before them
+abbrev pub with_lexemes : Gathered → ℕ → List Lexeme → Gathered
+with_lexemes g depth lexemes = record { symbols = g.symbols ++ map symbol_of lexemes; lowest = keep g.lowest (parts_from depth lexemes) }
 
--- the items of what is left, with so many turns
-abbrev pub gather : Gathered → ℕ → ℕ → Stand → List Token → Option Gathered
-gather g depth n s [] = Some g
-gather g depth zero s (t ∷ ts) = None
-gather g depth (suc n) s (t ∷ ts) = option_and_then (λ (p : Item × List Token). gather (with_item g depth p.0) (depth_behind depth p.0) n (stand_behind p.0) p.1) (read_item s (t ∷ ts))
-
-abbrev pub nothing_gathered : Gathered
-nothing_gathered = record { symbols = []; lowest = None }
+-- no lexeme yet
+abbrev pub nothing_gathered : Option Part → Gathered
+nothing_gathered lowest = record { symbols = []; lowest = lowest }

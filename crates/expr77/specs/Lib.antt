@@ -1,9 +1,5 @@
-pub mod Grouping
-pub mod Building
-pub mod ItemReading
+pub mod LexemeReading
 pub mod Gathering
 pub mod Outcome
 pub mod Parsing
 pub mod Views
-pub mod BuilderViews
-pub mod Groups

@@ -1,45 +1,34 @@
 -- What the reading of tokens as an expression gives.
-use Rattle.std.specs.Prelude.{List, length, map, take, flat_map, Option, Some, None}
+use Rattle.std.specs.Prelude.{ℕ, List, map, take, flat_map, Option, Some, None}
+use Rattle.std.specs.Option.{option_map, option_and_then}
+use Rattle.text_base.specs.Trees.{Expr}
+use Rattle.text_base.specs.declared.limits.TheConstants.{MOST_SHOWN}
 use Rattle.text_base.specs.declared.refusal.Cause.TheVariants.{NotAStatement}
 use Rattle.tree77.specs.Tokens.{Token}
-use Rattle.tree77.specs.Syntax.{Expr}
-use Rattle.tree77.specs.Items.{Item, Part, symbol_of, parts_from, first_lowest}
-use Rattle.expr77.specs.Building.{build}
-use Rattle.expr77.specs.Gathering.{Gathered, gather, nothing_gathered}
-use Rattle.expr77.specs.ItemReading.{at_operand, items_of}
+use Rattle.tree77.specs.Lexemes.{Lexeme, Part, symbol_of, parts_from}
+use Rattle.group77.specs.Building.{build}
+use Rattle.expr77.specs.Gathering.{keep}
+use Rattle.expr77.specs.LexemeReading.{lexemes_of}
 
+-- the tree, or the part for which the tokens are refused
 pub data Outcome : Type 0 where
   accepted : Expr → Outcome
   refused : Part → Outcome
 
--- the tokens are no expression
-abbrev pub not_spelled : List Token → Outcome
-not_spelled tokens = refused (record { cause = NotAStatement; shown = take 12 (flat_map (λ t. t.text) tokens) })
+-- the tree of some lexemes, and the lowest part of them and of what was before them
+abbrev pub tree_of : ℕ → Option Part → List Lexeme → Option (Expr × Option Part)
+tree_of depth lowest lexemes = option_map (λ x. (x, keep lowest (parts_from depth lexemes))) (build (map symbol_of lexemes))
 
-abbrev pub unless_part : Expr → Option Part → Outcome
-unless_part x None = accepted x
-unless_part x (Some p) = refused p
+-- the expression of some tokens, where so many parentheses are open before them, and this part is the lowest so far
+abbrev pub expression_of : ℕ → Option Part → List Token → Option (Expr × Option Part)
+expression_of depth lowest tokens = option_and_then (tree_of depth lowest) (lexemes_of tokens)
 
-abbrev pub outcome_of_tree : List Token → List Item → Option Expr → Outcome
-outcome_of_tree tokens items None = not_spelled tokens
-outcome_of_tree tokens items (Some x) = unless_part x (first_lowest (parts_from 0 items))
+-- the tree, unless the expression or a part of it is refused
+abbrev pub outcome_from : List Token → Option (Expr × Option Part) → Outcome
+outcome_from tokens None = refused (record { cause = NotAStatement; shown = take MOST_SHOWN (flat_map (λ t. t.text) tokens) })
+outcome_from tokens (Some (x, None)) = accepted x
+outcome_from tokens (Some (x, Some p)) = refused p
 
-abbrev pub outcome_of_items : List Token → Option (List Item) → Outcome
-outcome_of_items tokens None = not_spelled tokens
-outcome_of_items tokens (Some items) = outcome_of_tree tokens items (build (map symbol_of items))
-
--- what some tokens give
+-- what some tokens give as a whole expression
 abbrev pub outcome_of : List Token → Outcome
-outcome_of tokens = outcome_of_items tokens (items_of tokens)
-
--- the same by what is gathered of them
-abbrev pub outcome_of_build : List Token → Option Part → Option Expr → Outcome
-outcome_of_build tokens lowest None = not_spelled tokens
-outcome_of_build tokens lowest (Some x) = unless_part x lowest
-
-abbrev pub outcome_of_gathered : List Token → Option Gathered → Outcome
-outcome_of_gathered tokens None = not_spelled tokens
-outcome_of_gathered tokens (Some g) = outcome_of_build tokens g.lowest (build g.symbols)
-
-abbrev pub gathered_outcome : List Token → Outcome
-gathered_outcome tokens = outcome_of_gathered tokens (gather nothing_gathered 0 (length tokens) at_operand tokens)
+outcome_of tokens = outcome_from tokens (expression_of 0 None tokens)

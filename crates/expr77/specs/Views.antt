@@ -1,82 +1,56 @@
--- What clauses see of tokens, items, symbols and open parentheses.
-use Rattle.std.specs.Prelude.{◌≡◌, List, [], ◌∷◌, map, Option, Some, None, Result, Ok, Err}
+-- What clauses see of lexemes, numbers, parts and places in an expression.
+use Rattle.std.specs.Prelude.{ℕ, List, [], ◌∷◌, map, Option, Some, None}
 use Rattle.std.specs.Option.{option_map}
-use Rattle.tree77.specs.Tokens as plain
-use Rattle.tree77.specs.Items as item
-use Rattle.tree77.specs.Expressions as symbol
-use Rattle.tree77.specs.SyntaxPlain.{expr_of, binary_of}
-use Rattle.tree77.specs.Syntax as e
-use Rattle.scan77.specs.declared.token.Token.{Token}
-use Rattle.scan77.specs.TokenViews.{kind_of_token}
-use Rattle.expr77.specs.ItemReading as reading
-use Rattle.expr77.specs.Gathering as form
+use Rattle.expr_tree.specs.Plain.{binary_of}
+use Rattle.tree77.specs.Lexemes as plain
+use Rattle.scan77.specs.Token.{tokens_of}
+use Rattle.group77.specs.Symbol.{symbol_of}
+use Rattle.expr77.specs.LexemeReading as reading
+use Rattle.expr77.specs.Gathering as gathering
 use Rattle.expr77.specs.declared.gathering.Gathered.{Gathered}
-use Rattle.expr77.specs.declared.item.Item.{Item}
-use Rattle.expr77.specs.declared.item.Item.TheVariants as items
+use Rattle.expr77.specs.declared.gathering.Reading.{Reading}
+use Rattle.expr77.specs.declared.lexeme.Lexeme.{Lexeme}
+use Rattle.expr77.specs.declared.lexeme.Lexeme.TheVariants as lexeme
 use Rattle.expr77.specs.declared.number.Number.{Number}
-use Rattle.expr77.specs.declared.number.Number.TheVariants as numbers
+use Rattle.expr77.specs.declared.number.Number.TheVariants as number
 use Rattle.expr77.specs.declared.part.Part.{Part}
 use Rattle.expr77.specs.declared.reading.Stand.{Stand}
-use Rattle.expr77.specs.declared.reading.Stand.TheVariants as stands
-use Rattle.tree77.specs.declared.syntax.Expr.{Expr}
-use Rattle.expr77.specs.declared.stop.Stop.{Stop}
-use Rattle.expr77.specs.declared.stop.Stop.TheVariants as stops
-use Rattle.expr77.specs.declared.symbol.Symbol.{Symbol}
-use Rattle.expr77.specs.declared.symbol.Symbol.TheVariants as symbols
-
--- tokens without their places
-abbrev pub token_of : Token → plain.Token
-token_of token = record { kind = kind_of_token token.kind; text = token.text }
-
-abbrev pub tokens_of : List Token → List plain.Token
-tokens_of tokens = map token_of tokens
+use Rattle.expr77.specs.declared.reading.Stand.TheVariants as stand
 
 abbrev pub number_of : Number → reading.Number
-number_of (numbers.Whole digits) = reading.whole digits.now
-number_of numbers.Real = reading.real
+number_of (number.Whole digits) = reading.whole digits.now
+number_of number.Real = reading.real
 
-abbrev pub item_of : Item → item.Item
-item_of (items.Integer digits) = item.integer digits.now
-item_of items.Constant = item.constant
-item_of (items.Logical b) = item.logical b
-item_of (items.Characters text) = item.characters text
-item_of (items.Name word) = item.name word
-item_of items.Alternate = item.alternate
-item_of (items.Operator o) = item.operator (binary_of o)
-item_of items.Not = item.not_sign
-item_of items.Open = item.opening
-item_of items.Close = item.closing
-item_of items.Comma = item.comma
-item_of items.Colon = item.colon
+abbrev pub lexeme_of : Lexeme → plain.Lexeme
+lexeme_of (lexeme.Integer digits) = plain.integer digits.now
+lexeme_of lexeme.Constant = plain.constant
+lexeme_of (lexeme.Logical b) = plain.logical b
+lexeme_of (lexeme.Characters text) = plain.characters text
+lexeme_of (lexeme.Name word) = plain.name word
+lexeme_of lexeme.Alternate = plain.alternate
+lexeme_of (lexeme.Operator o) = plain.operator (binary_of o)
+lexeme_of lexeme.Not = plain.not_sign
+lexeme_of lexeme.Open = plain.opening
+lexeme_of lexeme.Close = plain.closing
+lexeme_of lexeme.Comma = plain.comma
+lexeme_of lexeme.Colon = plain.colon
 
-abbrev pub part_of : Part → item.Part
+abbrev pub part_of : Part → plain.Part
 part_of part = record { cause = part.cause; shown = part.shown.now }
 
 -- no part or one, as a list
-abbrev pub parts_of : Option Part → List item.Part
+abbrev pub parts_of : Option Part → List plain.Part
 parts_of None = []
 parts_of (Some part) = part_of part ∷ []
 
 abbrev pub stand_of : Stand → reading.Stand
-stand_of stands.Argument = reading.at_argument
-stand_of stands.Operand = reading.at_operand
-stand_of stands.After = reading.after_operand
+stand_of stand.Argument = reading.at_argument
+stand_of stand.Operand = reading.at_operand
+stand_of stand.After = reading.after_operand
 
-abbrev pub symbol_of : Symbol → symbol.Symbol
-symbol_of (symbols.Operand x) = symbol.operand (expr_of x)
-symbol_of symbols.Alternate = symbol.alternate
-symbol_of (symbols.Operator o) = symbol.operator (binary_of o)
-symbol_of symbols.Not = symbol.not_sign
-symbol_of symbols.Open = symbol.opening
-symbol_of symbols.Close = symbol.closing
-symbol_of symbols.Comma = symbol.comma
-symbol_of symbols.Colon = symbol.colon
-
--- a tree where one is read, and none where none is; want of memory says nothing
-abbrev pub Gives : Result Expr Stop → Option e.Expr → Type 0
-Gives (Ok x) read = read ≡ Some (expr_of x)
-Gives (Err stops.NotSpelled) read = read ≡ None
-Gives (Err stops.Memory) read = Unit {0}
-
-abbrev pub gathered_of : Gathered → form.Gathered
+abbrev pub gathered_of : Gathered → gathering.Gathered
 gathered_of g = record { symbols = map symbol_of g.symbols; lowest = option_map part_of g.lowest }
+
+-- what has been gathered, with the lexemes of the tokens that are left, in so many turns
+abbrev pub left_of : ℕ → Reading → Option gathering.Gathered
+left_of n r = option_map (gathering.with_lexemes (gathered_of r.gathered) r.depth) (reading.read_lexemes n (stand_of r.stand) (tokens_of r.rest.now))

@@ -1,39 +1,44 @@
-// Gathers the items of an expression.
-ghost use Rattle.std.specs.Prelude.{◌≡◌, ◌+◌, ◌<◌, ◌≤◌, ◌^◌, length, take, IfOk, OnOk};
+// Gathers the lexemes of an expression.
+ghost use Rattle.std.specs.Prelude.{◌≡◌, ◌+◌, ◌<◌, ◌≤◌, ◌^◌, ◌∷◌, [], ℕ, suc, None, length, take, IfOk, OnOk, if◌then◌else◌};
 ghost use Rattle.std.specs.Option.{option_map};
-ghost use Rattle.tree77.specs.Items as plain;
-ghost use Rattle.expr77.specs.Gathering as form;
-ghost use Rattle.expr77.specs.ItemReading as reading;
-ghost use Rattle.expr77.specs.Views.{tokens_of, item_of, stand_of, symbol_of, gathered_of};
+ghost use Rattle.text_base.specs.declared.limits.TheConstants.{LONGEST_NAME};
+ghost use Rattle.tree77.specs.Lexemes as plain;
+ghost use Rattle.scan77.specs.Token.{tokens_of};
+ghost use Rattle.group77.specs.Symbol.{symbol_of};
+ghost use Rattle.expr77.specs.Gathering.{with_lexemes, nothing_gathered};
+ghost use Rattle.expr77.specs.LexemeReading as reading;
+ghost use Rattle.expr77.specs.LexemeReading.{lexemes_of};
+ghost use Rattle.expr77.specs.Views.{lexeme_of, part_of, stand_of, gathered_of, left_of};
 
-use crate::item::Item;
+use crate::lexeme::Lexeme;
 use crate::part::{Part, first, lower_part, refused_part, small_value};
-use crate::reading::{Stand, item_here, stand_behind};
-use crate::symbol::{Symbol, Symbols};
+use crate::reading::{Stand, lexeme_here, stand_behind};
 use crate::word::Word;
+use expr_tree::Expr;
+use group77::{Symbol, Symbols};
 use scan77::Token;
 use sqlite_items::Items;
 use std::alloc::{AllocError, Global};
 use text_base::Name;
-use tree77::syntax::Expr;
+use text_base::limits::LONGEST_NAME;
 
-/// The symbols of an expression, and the part of it that is refused, if one is.
+/// The symbols of an expression, and the lowest part of it that is refused, if one is.
 #[derive(Drop)]
 pub struct Gathered<'a> {
     pub symbols: Symbols,
     pub lowest: Option<Part<'a>>,
 }
 
-/// The name that stands for a word: its first 31 characters.
+/// The name that stands for a word: its first characters, as many as a name may have.
 #[tactic(auto, using(crate::proofs::Words::first_is_name))]
-fn name_of(alloc: Global, word: &Word<'_>) -> Result<Name, AllocError>
-    ensures { IfOk result (λ name. name ≡ take 31 word.now) }
+fn name_of(word: &Word<'_>) -> Name
+    ensures { result ≡ take LONGEST_NAME word.now }
 {
-    Name::from_slice(alloc, first(word.as_slice(), 31))
+    Name::new(first(word.as_slice(), LONGEST_NAME))
 }
 
 /// The integer constant of some digits, 0 where it is too great.
-#[tactic(auto, using(tree77::proofs::SyntaxPlains::syntax_equations))]
+#[tactic(auto, using(expr_tree::proofs::Equations::expr_equations))]
 fn integer(digits: &[u8]) -> Symbol
     ensures { symbol_of result ≡ plain.symbol_of (plain.integer digits.now) }
 {
@@ -43,79 +48,112 @@ fn integer(digits: &[u8]) -> Symbol
     }
 }
 
-/// The symbol of an item. A part that is refused has one that may stand in its place.
-#[tactic(auto, using(tree77::proofs::SyntaxPlains::syntax_equations))]
-fn symbol(alloc: Global, item: Item<'_>) -> Result<Symbol, AllocError>
-    ensures { IfOk result (λ made. symbol_of made ≡ plain.symbol_of (item_of item.entry)) }
+/// The symbol of a lexeme. A part that is refused has one that may stand in its place.
+#[tactic(auto, using(expr_tree::proofs::Equations::expr_equations))]
+fn symbol(lexeme: Lexeme<'_>) -> Symbol
+    ensures { symbol_of result ≡ plain.symbol_of (lexeme_of lexeme.entry) }
 {
-    Ok(match item {
-        Item::Integer(digits) => integer(digits),
-        Item::Constant => Symbol::Operand(Expr::Int(0)),
-        Item::Logical(value) => Symbol::Operand(Expr::Bool(value)),
-        Item::Characters(text) => Symbol::Operand(Expr::Text(text)),
-        Item::Name(word) => Symbol::Operand(Expr::Name(name_of(alloc, &word)?)),
-        Item::Alternate => Symbol::Alternate,
-        Item::Operator(operator) => Symbol::Operator(operator),
-        Item::Not => Symbol::Not,
-        Item::Open => Symbol::Open,
-        Item::Close => Symbol::Close,
-        Item::Comma => Symbol::Comma,
-        Item::Colon => Symbol::Colon,
-    })
+    match lexeme {
+        Lexeme::Integer(digits) => integer(digits),
+        Lexeme::Constant => Symbol::Operand(Expr::Int(0)),
+        Lexeme::Logical(value) => Symbol::Operand(Expr::Bool(value)),
+        Lexeme::Characters(text) => Symbol::Operand(Expr::Text(text)),
+        Lexeme::Name(word) => Symbol::Operand(Expr::Name(name_of(&word))),
+        Lexeme::Alternate => Symbol::Alternate,
+        Lexeme::Operator(operator) => Symbol::Operator(operator),
+        Lexeme::Not => Symbol::Not,
+        Lexeme::Open => Symbol::Open,
+        Lexeme::Close => Symbol::Close,
+        Lexeme::Comma => Symbol::Comma,
+        Lexeme::Colon => Symbol::Colon,
+    }
 }
 
-/// How many parentheses are open behind an item.
-fn depth_behind(depth: usize, item: &Item<'_>) -> usize
+/// How many parentheses are open behind a lexeme.
+fn depth_behind(depth: usize, lexeme: &Lexeme<'_>) -> usize
     requires { depth + 1 < 2 ^ 64 }
-    ensures value { result ≡ plain.depth_behind depth (item_of item.now) }
+    ensures value { result ≡ plain.depth_behind depth (lexeme_of lexeme.now) }
     ensures bound { result ≤ depth + 1 }
 {
-    match item {
-        Item::Open => depth + 1,
-        Item::Close => depth.saturating_sub(1),
+    match lexeme {
+        Lexeme::Open => depth + 1,
+        Lexeme::Close => depth.saturating_sub(1),
         _ => depth,
     }
 }
 
-/// Appends an item, where so many parentheses are open before it.
-fn add<'a>(
-    alloc: Global,
-    gathered: &mut Gathered<'a>,
+/// The lexemes of an expression that have been read: what is gathered of them, what may stand behind them, how many
+/// parentheses are open there, and the tokens that are left.
+#[derive(Drop)]
+struct Reading<'t, 'a> {
+    gathered: Gathered<'a>,
+    stand: Stand,
     depth: usize,
-    item: Item<'a>,
-) -> Result<(), AllocError>
-    ensures { OnOk result (gathered_of gathered.new ≡ form.with_item (gathered_of gathered.old) depth (item_of item.entry)) }
-{
-    gathered.lowest = lower_part(gathered.lowest, refused_part(depth, &item));
-    gathered.symbols.push(symbol(alloc, item)?)
+    rest: &'t [Token<'a>],
 }
 
-/// The items of an expression, gathered. `None` where the tokens are no items. It fails for want of memory alone.
-pub fn gather(alloc: Global, tokens: &[Token]) -> Result<Option<Gathered<'_>>, AllocError>
-    ensures { IfOk result (λ made. option_map gathered_of made ≡ form.gather form.nothing_gathered 0 (length tokens.now) reading.at_operand (tokens_of tokens.now)) }
-{
-    let mut gathered = Gathered {
-        symbols: Items::new(alloc),
-        lowest: None,
-    };
-    let mut stand = Stand::Operand;
-    let mut depth = 0;
-    let mut rest = tokens;
-    for _ in 0..tokens.len() {
-        if rest.is_empty() {
-            return Ok(Some(gathered));
-        }
-        let Some((item, behind)) = item_here(alloc, stand, rest)? else {
-            return Ok(None);
-        };
-        stand = stand_behind(&item);
-        let behind_item = depth_behind(depth, &item);
-        add(alloc, &mut gathered, depth, item)?;
-        depth = behind_item;
-        rest = behind;
+impl<'t, 'a> Reading<'t, 'a> {
+    /// Appends a lexeme, behind which these tokens are left.
+    fn push(&mut self, lexeme: Lexeme<'a>, rest: &'t [Token<'a>]) -> Result<(), AllocError>
+        requires { self.old.depth + 1 < 2 ^ 64 }
+        ensures gathered { OnOk result (gathered_of self.new.gathered ≡ with_lexemes (gathered_of self.old.gathered) self.old.depth (lexeme_of lexeme.entry ∷ [])) }
+        ensures stand { OnOk result (stand_of self.new.stand ≡ reading.stand_behind (lexeme_of lexeme.entry)) }
+        ensures depth { OnOk result (self.new.depth ≡ plain.depth_behind self.old.depth (lexeme_of lexeme.entry)) }
+        ensures bound { OnOk result (self.new.depth ≤ self.old.depth + 1) }
+        ensures rest { OnOk result (tokens_of self.new.rest.now ≡ tokens_of rest.entry.now) }
+    {
+        let part = refused_part(self.depth, &lexeme);
+        self.gathered.lowest = lower_part(self.gathered.lowest, part);
+        self.stand = stand_behind(&lexeme);
+        self.depth = depth_behind(self.depth, &lexeme);
+        self.rest = rest;
+        self.gathered.symbols.push(symbol(lexeme))
     }
-    if rest.is_empty() {
-        Ok(Some(gathered))
+
+    /// Reads the next lexeme of the tokens that are left. Whether one stands there.
+    fn next(&mut self, alloc: Global) -> Result<bool, AllocError>
+        requires some { 0 < length self.old.rest.now }
+        requires room { self.old.depth + 1 < 2 ^ 64 }
+        ensures read { IfOk result (λ found. (n : ℕ) → left_of (suc n) self.old ≡ (if found then left_of n self.new else None)) }
+        ensures bound { OnOk result (self.new.depth ≤ self.old.depth + 1) }
+    {
+        let Some((lexeme, rest)) = lexeme_here(alloc, self.stand, self.rest)? else {
+            return Ok(false);
+        };
+        self.push(lexeme, rest)?;
+        Ok(true)
+    }
+}
+
+/// The lexemes of an expression, gathered, where so many parentheses are open before it, and this part is the lowest so far.
+/// `None` where the tokens are no lexemes. It fails for want of memory alone.
+pub fn gather<'a>(
+    alloc: Global,
+    depth: usize,
+    lowest: Option<Part<'a>>,
+    tokens: &[Token<'a>],
+) -> Result<Option<Gathered<'a>>, AllocError>
+    requires { depth + length tokens.now < 2 ^ 64 }
+    ensures { IfOk result (λ made. option_map gathered_of made
+        ≡ option_map (with_lexemes (nothing_gathered (option_map part_of lowest.entry)) depth) (lexemes_of (tokens_of tokens.now))) }
+{
+    let symbols = Items::new(alloc);
+    let mut reading = Reading {
+        gathered: Gathered { symbols, lowest },
+        stand: Stand::Operand,
+        depth,
+        rest: tokens,
+    };
+    for _ in 0..tokens.len() {
+        if reading.rest.is_empty() {
+            return Ok(Some(reading.gathered));
+        }
+        if !reading.next(alloc)? {
+            return Ok(None);
+        }
+    }
+    if reading.rest.is_empty() {
+        Ok(Some(reading.gathered))
     } else {
         Ok(None)
     }

@@ -1,9 +1,9 @@
 // Marks, runs, digits and numbers among tokens.
 ghost use Rattle.std.specs.Prelude.{◌≡◌, ◌==◌, Some};
 ghost use Rattle.std.specs.Option.{option_map, option_or, option_and_then};
-ghost use Rattle.scan77.specs.TokenViews.{kind_of_token};
-ghost use Rattle.expr77.specs.ItemReading as form;
-ghost use Rattle.expr77.specs.Views.{tokens_of, number_of};
+ghost use Rattle.expr77.specs.LexemeReading as reading;
+ghost use Rattle.scan77.specs.Token.{token_kind_of, tokens_of};
+ghost use Rattle.expr77.specs.Views.{number_of};
 
 use scan77::{Token, TokenKind};
 use text_base::chars::are_digits;
@@ -17,7 +17,7 @@ pub enum Number<'a> {
 
 /// The first character, 0 where there is none.
 pub fn first_or_0(text: &[u8]) -> u8
-    ensures { result ≡ form.first_or_0 text.now }
+    ensures { result ≡ reading.first_or_0 text.now }
 {
     match text {
         [] => 0,
@@ -26,11 +26,11 @@ pub fn first_or_0(text: &[u8]) -> u8
 }
 
 /// The character of a mark, 0 for other tokens.
-pub fn character(token: &Token) -> u8
-    ensures { result ≡ form.character_of (kind_of_token token.now.kind) token.now.text }
+fn character(token: &Token<'_>) -> u8
+    ensures { result ≡ reading.character_of (token_kind_of token.now.kind) token.now.text.now }
 {
     match token.kind {
-        TokenKind::Mark => first_or_0(token.text.as_slice()),
+        TokenKind::Mark => first_or_0(token.text),
         TokenKind::Run => 0,
         TokenKind::Digits => 0,
         TokenKind::Text => 0,
@@ -38,8 +38,8 @@ pub fn character(token: &Token) -> u8
 }
 
 /// What is left behind a mark, if it stands here.
-pub fn behind_mark(mark: u8, tokens: &[Token]) -> Option<&[Token]>
-    ensures { option_map (λ rest. tokens_of rest.now) result ≡ form.behind_mark mark (tokens_of tokens.now) }
+pub fn behind_mark<'t, 'a>(mark: u8, tokens: &'t [Token<'a>]) -> Option<&'t [Token<'a>]>
+    ensures { option_map (λ rest. tokens_of rest.now) result ≡ reading.behind_mark mark (tokens_of tokens.now) }
 {
     match tokens {
         [] => None,
@@ -54,13 +54,13 @@ pub fn behind_mark(mark: u8, tokens: &[Token]) -> Option<&[Token]>
 }
 
 /// The run that stands here, and what is left behind it.
-pub fn run_here(tokens: &[Token]) -> Option<(&[u8], &[Token])>
-    ensures { option_map (λ p. (p.0.now, tokens_of p.1.now)) result ≡ form.run_here (tokens_of tokens.now) }
+pub fn run_here<'t, 'a>(tokens: &'t [Token<'a>]) -> Option<(&'a [u8], &'t [Token<'a>])>
+    ensures { option_map (λ p. (p.0.now, tokens_of p.1.now)) result ≡ reading.run_here (tokens_of tokens.now) }
 {
     match tokens {
         [] => None,
         [token, rest @ ..] => match token.kind {
-            TokenKind::Run => Some((token.text.as_slice(), rest)),
+            TokenKind::Run => Some((token.text, rest)),
             TokenKind::Digits => None,
             TokenKind::Text => None,
             TokenKind::Mark => None,
@@ -69,13 +69,13 @@ pub fn run_here(tokens: &[Token]) -> Option<(&[u8], &[Token])>
 }
 
 /// The digits that stand here, and what is left behind them.
-pub fn digits_here(tokens: &[Token]) -> Option<(&[u8], &[Token])>
-    ensures { option_map (λ p. (p.0.now, tokens_of p.1.now)) result ≡ form.digits_here (tokens_of tokens.now) }
+pub fn digits_here<'t, 'a>(tokens: &'t [Token<'a>]) -> Option<(&'a [u8], &'t [Token<'a>])>
+    ensures { option_map (λ p. (p.0.now, tokens_of p.1.now)) result ≡ reading.digits_here (tokens_of tokens.now) }
 {
     match tokens {
         [] => None,
         [token, rest @ ..] => match token.kind {
-            TokenKind::Digits => Some((token.text.as_slice(), rest)),
+            TokenKind::Digits => Some((token.text, rest)),
             TokenKind::Run => None,
             TokenKind::Text => None,
             TokenKind::Mark => None,
@@ -83,8 +83,8 @@ pub fn digits_here(tokens: &[Token]) -> Option<(&[u8], &[Token])>
     }
 }
 
-fn behind_sign(tokens: &[Token]) -> Option<&[Token]>
-    ensures { option_map (λ rest. tokens_of rest.now) result ≡ option_or (form.behind_mark 43 (tokens_of tokens.now)) (form.behind_mark 45 (tokens_of tokens.now)) }
+fn behind_sign<'t, 'a>(tokens: &'t [Token<'a>]) -> Option<&'t [Token<'a>]>
+    ensures { option_map (λ rest. tokens_of rest.now) result ≡ option_or (reading.behind_mark 43 (tokens_of tokens.now)) (reading.behind_mark 45 (tokens_of tokens.now)) }
 {
     match behind_mark(b'+', tokens) {
         Some(rest) => Some(rest),
@@ -93,21 +93,21 @@ fn behind_sign(tokens: &[Token]) -> Option<&[Token]>
 }
 
 fn is_exponent_letter(letter: u8) -> bool
-    ensures { result ≡ form.is_exponent_letter letter }
+    ensures { result ≡ reading.is_exponent_letter letter }
 {
     letter == b'E' || letter == b'D'
 }
 
-fn behind_signed_digits(tokens: &[Token]) -> Option<&[Token]>
-    ensures { option_map (λ rest. tokens_of rest.now) result ≡ form.behind_signed_digits (tokens_of tokens.now) }
+fn behind_signed_digits<'t, 'a>(tokens: &'t [Token<'a>]) -> Option<&'t [Token<'a>]>
+    ensures { option_map (λ rest. tokens_of rest.now) result ≡ reading.behind_signed_digits (tokens_of tokens.now) }
 {
     let digits = behind_sign(tokens)?;
     let (_, rest) = digits_here(digits)?;
     Some(rest)
 }
 
-fn behind_exponent_run<'a>(run: &[u8], rest: &'a [Token]) -> Option<&'a [Token]>
-    ensures { option_map (λ r. tokens_of r.now) result ≡ form.behind_exponent_run run.now (tokens_of rest.now) }
+fn behind_exponent_run<'t, 'a>(run: &[u8], rest: &'t [Token<'a>]) -> Option<&'t [Token<'a>]>
+    ensures { option_map (λ r. tokens_of r.now) result ≡ reading.behind_exponent_run run.now (tokens_of rest.now) }
 {
     match run {
         [] => None,
@@ -129,31 +129,28 @@ fn behind_exponent_run<'a>(run: &[u8], rest: &'a [Token]) -> Option<&'a [Token]>
 }
 
 /// What is left behind an exponent, if one stands here: E or D, and a number that may have a sign.
-fn behind_exponent(tokens: &[Token]) -> Option<&[Token]>
-    ensures { option_map (λ rest. tokens_of rest.now) result ≡ form.behind_exponent (tokens_of tokens.now) }
+fn behind_exponent<'t, 'a>(tokens: &'t [Token<'a>]) -> Option<&'t [Token<'a>]>
+    ensures { option_map (λ rest. tokens_of rest.now) result ≡ reading.behind_exponent (tokens_of tokens.now) }
 {
     let (run, rest) = run_here(tokens)?;
     behind_exponent_run(run, rest)
 }
 
 /// What is left behind an exponent, or all where none stands here.
-fn behind_any_exponent(tokens: &[Token]) -> &[Token]
-    ensures { tokens_of result.now ≡ form.or_all (tokens_of tokens.now) (form.behind_exponent (tokens_of tokens.now)) }
+fn behind_any_exponent<'t, 'a>(tokens: &'t [Token<'a>]) -> &'t [Token<'a>]
+    ensures { tokens_of result.now ≡ reading.or_all (tokens_of tokens.now) (reading.behind_exponent (tokens_of tokens.now)) }
 {
-    match behind_exponent(tokens) {
-        Some(rest) => rest,
-        None => tokens,
-    }
+    behind_exponent(tokens).unwrap_or(tokens)
 }
 
 /// A number whose digits and point have been read: the tokens from the point on, and those behind it.
-fn behind_point<'a>(
+fn behind_point<'t, 'a>(
     digits: &'a [u8],
-    point: &'a [Token],
-    rest: &'a [Token],
-) -> (Number<'a>, &'a [Token])
+    point: &'t [Token<'a>],
+    rest: &'t [Token<'a>],
+) -> (Number<'a>, &'t [Token<'a>])
     ensures { (number_of result.0, tokens_of result.1.now)
-        ≡ form.behind_point digits.now (tokens_of point.now) (tokens_of rest.now) (form.behind_exponent (tokens_of rest.now)) (form.run_here (tokens_of rest.now)) (form.digits_here (tokens_of rest.now)) }
+        ≡ reading.behind_point digits.now (tokens_of point.now) (tokens_of rest.now) (reading.behind_exponent (tokens_of rest.now)) (reading.run_here (tokens_of rest.now)) (reading.digits_here (tokens_of rest.now)) }
 {
     if let Some(after) = behind_exponent(rest) {
         return (Number::Real, after);
@@ -168,9 +165,9 @@ fn behind_point<'a>(
 }
 
 /// A number whose first digits have been read.
-fn behind_digits<'a>(digits: &'a [u8], rest: &'a [Token]) -> (Number<'a>, &'a [Token])
+fn behind_digits<'t, 'a>(digits: &'a [u8], rest: &'t [Token<'a>]) -> (Number<'a>, &'t [Token<'a>])
     ensures { (number_of result.0, tokens_of result.1.now)
-        ≡ form.behind_digits digits.now (tokens_of rest.now) (form.behind_exponent (tokens_of rest.now)) (form.behind_mark 46 (tokens_of rest.now)) }
+        ≡ reading.behind_digits digits.now (tokens_of rest.now) (reading.behind_exponent (tokens_of rest.now)) (reading.behind_mark 46 (tokens_of rest.now)) }
 {
     if let Some(after) = behind_exponent(rest) {
         return (Number::Real, after);
@@ -182,9 +179,9 @@ fn behind_digits<'a>(digits: &'a [u8], rest: &'a [Token]) -> (Number<'a>, &'a [T
 }
 
 /// What is left behind a point and digits, if they stand here.
-fn behind_fraction(tokens: &[Token]) -> Option<&[Token]>
+fn behind_fraction<'t, 'a>(tokens: &'t [Token<'a>]) -> Option<&'t [Token<'a>]>
     ensures { option_map (λ rest. tokens_of rest.now) result
-        ≡ option_map (λ d. form.or_all d.1 (form.behind_exponent d.1)) (option_and_then form.digits_here (form.behind_mark 46 (tokens_of tokens.now))) }
+        ≡ option_map (λ d. reading.or_all d.1 (reading.behind_exponent d.1)) (option_and_then reading.digits_here (reading.behind_mark 46 (tokens_of tokens.now))) }
 {
     let digits = behind_mark(b'.', tokens)?;
     let (_, rest) = digits_here(digits)?;
@@ -192,9 +189,9 @@ fn behind_fraction(tokens: &[Token]) -> Option<&[Token]>
 }
 
 /// The number without a sign that stands here, if one does (X3.9 sections 4.3 to 4.5).
-#[tactic(auto, unfolding(crate::specs::ItemReading::read_number))]
-pub fn number_here(tokens: &[Token]) -> Option<(Number<'_>, &[Token])>
-    ensures { option_map (λ p. (number_of p.0, tokens_of p.1.now)) result ≡ form.read_number (tokens_of tokens.now) }
+#[tactic(auto, unfolding(crate::specs::LexemeReading::read_number))]
+pub fn number_here<'t, 'a>(tokens: &'t [Token<'a>]) -> Option<(Number<'a>, &'t [Token<'a>])>
+    ensures { option_map (λ p. (number_of p.0, tokens_of p.1.now)) result ≡ reading.read_number (tokens_of tokens.now) }
 {
     if let Some((digits, rest)) = digits_here(tokens) {
         return Some(behind_digits(digits, rest));
@@ -203,21 +200,18 @@ pub fn number_here(tokens: &[Token]) -> Option<(Number<'_>, &[Token])>
     Some((Number::Real, rest))
 }
 
-fn behind_part(tokens: &[Token]) -> Option<&[Token]>
-    ensures { option_map (λ rest. tokens_of rest.now) result ≡ form.behind_part (tokens_of tokens.now) }
+fn behind_part<'t, 'a>(tokens: &'t [Token<'a>]) -> Option<&'t [Token<'a>]>
+    ensures { option_map (λ rest. tokens_of rest.now) result ≡ reading.behind_part (tokens_of tokens.now) }
 {
-    let unsigned = match behind_sign(tokens) {
-        Some(rest) => rest,
-        None => tokens,
-    };
+    let unsigned = behind_sign(tokens).unwrap_or(tokens);
     let (_, rest) = number_here(unsigned)?;
     Some(rest)
 }
 
 /// What is left behind a complex constant, if one stands here (X3.9 section 4.6.1).
-#[tactic(auto, unfolding(crate::specs::ItemReading::behind_complex))]
-pub fn behind_complex(tokens: &[Token]) -> Option<&[Token]>
-    ensures { option_map (λ rest. tokens_of rest.now) result ≡ form.behind_complex (tokens_of tokens.now) }
+#[tactic(auto, unfolding(crate::specs::LexemeReading::behind_complex))]
+pub fn behind_complex<'t, 'a>(tokens: &'t [Token<'a>]) -> Option<&'t [Token<'a>]>
+    ensures { option_map (λ rest. tokens_of rest.now) result ≡ reading.behind_complex (tokens_of tokens.now) }
 {
     let real = behind_mark(b'(', tokens)?;
     let comma = behind_part(real)?;
@@ -227,8 +221,8 @@ pub fn behind_complex(tokens: &[Token]) -> Option<&[Token]>
 }
 
 /// What is left behind H and the letters, digits and underscores that follow it, if it stands here.
-pub fn behind_hollerith(tokens: &[Token]) -> Option<&[Token]>
-    ensures { option_map (λ rest. tokens_of rest.now) result ≡ form.behind_hollerith (tokens_of tokens.now) }
+pub fn behind_hollerith<'t, 'a>(tokens: &'t [Token<'a>]) -> Option<&'t [Token<'a>]>
+    ensures { option_map (λ rest. tokens_of rest.now) result ≡ reading.behind_hollerith (tokens_of tokens.now) }
 {
     let (run, rest) = run_here(tokens)?;
     if first_or_0(run) == b'H' {

@@ -4,13 +4,16 @@ ghost use Rattle.expr77.specs.declared.parse_error.ParseError.TheVariants.{Memor
 
 use std::alloc::AllocError;
 use text_base::Refusals;
+use thiserror::Error;
 
 /// Why tokens aren't read as an expression: they are refused, or memory is wanting.
-#[derive(Debug, Drop)]
+#[derive(Debug, Drop, Error)]
 pub enum ParseError {
     /// The tokens are refused. The list has one refusal.
+    #[error("the tokens are refused as an expression")]
     Refused(Refusals),
     /// Want of memory. Nothing is known of the tokens.
+    #[error("memory is wanting")]
     Memory,
 }
 

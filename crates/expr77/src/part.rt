@@ -1,13 +1,14 @@
 // Parts of expressions that are refused.
 ghost use Rattle.std.specs.Prelude.{◌≡◌, ◌∷◌, [], pos, take, Some, None, if◌then◌else◌};
 ghost use Rattle.std.specs.Option.{option_map};
-ghost use Rattle.tree77.specs.Items as plain;
-ghost use Rattle.expr77.specs.Gathering as form;
-ghost use Rattle.expr77.specs.Views.{item_of, part_of, parts_of};
+ghost use Rattle.tree77.specs.Lexemes as plain;
+ghost use Rattle.expr77.specs.Gathering.{keep};
+ghost use Rattle.expr77.specs.Views.{lexeme_of, part_of, parts_of};
 ghost use Rattle.text_base.specs.declared.refusal.Cause.TheVariants.{Unsupported};
 
-use crate::item::Item;
+use crate::lexeme::Lexeme;
 use text_base::Cause;
+use text_base::limits::{DEEPEST_NESTING, GREATEST_INTEGER, LONGEST_NAME, MOST_SHOWN};
 
 /// A part of an expression that is refused: why, and the name that the refusal shows.
 #[derive(Clone, Copy)]
@@ -16,15 +17,6 @@ pub struct Part<'a> {
     pub shown: &'a [u8],
 }
 
-/// The greatest integer constant.
-const GREATEST: u64 = 2_147_483_647;
-
-/// The length of the longest name.
-const LONGEST_NAME: usize = 31;
-
-/// How deep parentheses may nest.
-const DEEPEST: usize = 200;
-
 /// The value of an integer constant (X3.9 section 4.3.1), where it isn't too great.
 pub fn small_value(digits: &[u8]) -> Option<i32>
     ensures { result ≡ (if plain.is_small digits.now then Some (pos (plain.decimal digits.now)) else None) }
@@ -32,7 +24,7 @@ pub fn small_value(digits: &[u8]) -> Option<i32>
     let mut value: u64 = 0;
     for digit in digits {
         value = 10 * value + u64::from(digit.saturating_sub(48));
-        if value > GREATEST {
+        if value > GREATEST_INTEGER {
             return None;
         }
     }
@@ -56,23 +48,23 @@ fn unsupported<'a>(word: &'a str) -> Option<Part<'a>>
     })
 }
 
-/// The refused part that an item is, where so many parentheses are open before it.
-pub fn refused_part<'a>(depth: usize, item: &Item<'a>) -> Option<Part<'a>>
-    ensures { parts_of result ≡ plain.part_of depth (item_of item.now) }
+/// The refused part that a lexeme is, where so many parentheses are open before it.
+pub fn refused_part<'a>(depth: usize, lexeme: &Lexeme<'a>) -> Option<Part<'a>>
+    ensures { parts_of result ≡ plain.part_of depth (lexeme_of lexeme.now) }
 {
-    match item {
-        Item::Integer(digits) => {
+    match lexeme {
+        Lexeme::Integer(digits) => {
             if small_value(digits).is_some() {
                 return None;
             }
             Some(Part {
                 cause: Cause::ConstantRange,
-                shown: first(digits, 12),
+                shown: first(digits, MOST_SHOWN),
             })
         }
-        Item::Constant => unsupported("CONSTANT"),
-        Item::Alternate => unsupported("RETURN"),
-        Item::Name(word) => {
+        Lexeme::Constant => unsupported("CONSTANT"),
+        Lexeme::Alternate => unsupported("RETURN"),
+        Lexeme::Name(word) => {
             if word.as_slice().len() <= LONGEST_NAME {
                 return None;
             }
@@ -81,25 +73,25 @@ pub fn refused_part<'a>(depth: usize, item: &Item<'a>) -> Option<Part<'a>>
                 shown: first(word.as_slice(), LONGEST_NAME),
             })
         }
-        Item::Open => {
-            if depth < DEEPEST {
+        Lexeme::Open => {
+            if depth < DEEPEST_NESTING {
                 return None;
             }
             unsupported("DEPTH")
         }
-        Item::Logical(_) => None,
-        Item::Characters(_) => None,
-        Item::Operator(_) => None,
-        Item::Not => None,
-        Item::Close => None,
-        Item::Comma => None,
-        Item::Colon => None,
+        Lexeme::Logical(_) => None,
+        Lexeme::Characters(_) => None,
+        Lexeme::Operator(_) => None,
+        Lexeme::Not => None,
+        Lexeme::Close => None,
+        Lexeme::Comma => None,
+        Lexeme::Colon => None,
     }
 }
 
 /// The part of the lower cause; the first of equal ones.
 pub fn lower_part<'a>(kept: Option<Part<'a>>, part: Option<Part<'a>>) -> Option<Part<'a>>
-    ensures { option_map part_of result ≡ form.keep (option_map part_of kept.entry) (parts_of part.entry) }
+    ensures { option_map part_of result ≡ keep (option_map part_of kept.entry) (parts_of part.entry) }
 {
     let Some(part) = part else {
         return kept;

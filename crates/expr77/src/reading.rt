@@ -1,22 +1,23 @@
-// Reads the syntactic items of an expression from tokens.
+// Reads the lexemes of an expression from tokens.
 ghost use Rattle.std.specs.Prelude.{◌≡◌, ◌==◌, ◌∷◌, List, ℕ, Some, None, IfOk, false, not};
 ghost use Rattle.std.specs.List.{list_any};
 ghost use Rattle.std.specs.Option.{option_map, option_and_then};
-ghost use Rattle.tree77.specs.Items as plain;
-ghost use Rattle.expr77.specs.ItemReading as form;
-ghost use Rattle.expr77.specs.Views.{tokens_of, number_of, item_of, stand_of};
+ghost use Rattle.tree77.specs.Lexemes as plain;
+ghost use Rattle.expr77.specs.LexemeReading as reading;
+ghost use Rattle.scan77.specs.Token.{tokens_of};
+ghost use Rattle.expr77.specs.Views.{number_of, lexeme_of, stand_of};
 
-use crate::item::Item;
+use crate::lexeme::Lexeme;
 use crate::number::{
     Number, behind_complex, behind_hollerith, behind_mark, digits_here, first_or_0, number_here,
     run_here,
 };
 use crate::word::Word;
+use expr_tree::BinaryOp;
 use scan77::{Token, TokenKind};
 use std::alloc::{AllocError, Global};
 use text_base::Bytes;
 use text_base::chars::are_digits;
-use tree77::syntax::BinaryOp;
 
 /// What may stand next: an argument or any operand, an operand, or what follows an operand.
 #[derive(Clone, Copy)]
@@ -26,30 +27,30 @@ pub enum Stand {
     After,
 }
 
-/// What may stand behind an item.
-pub fn stand_behind(item: &Item<'_>) -> Stand
-    ensures { stand_of result ≡ form.stand_behind (item_of item.now) }
+/// What may stand behind a lexeme.
+pub fn stand_behind(lexeme: &Lexeme<'_>) -> Stand
+    ensures { stand_of result ≡ reading.stand_behind (lexeme_of lexeme.now) }
 {
-    match item {
-        Item::Operator(_) => Stand::Operand,
-        Item::Not => Stand::Operand,
-        Item::Colon => Stand::Operand,
-        Item::Open => Stand::Argument,
-        Item::Comma => Stand::Argument,
-        Item::Integer(_) => Stand::After,
-        Item::Constant => Stand::After,
-        Item::Logical(_) => Stand::After,
-        Item::Characters(_) => Stand::After,
-        Item::Name(_) => Stand::After,
-        Item::Alternate => Stand::After,
-        Item::Close => Stand::After,
+    match lexeme {
+        Lexeme::Operator(_) => Stand::Operand,
+        Lexeme::Not => Stand::Operand,
+        Lexeme::Colon => Stand::Operand,
+        Lexeme::Open => Stand::Argument,
+        Lexeme::Comma => Stand::Argument,
+        Lexeme::Integer(_) => Stand::After,
+        Lexeme::Constant => Stand::After,
+        Lexeme::Logical(_) => Stand::After,
+        Lexeme::Characters(_) => Stand::After,
+        Lexeme::Name(_) => Stand::After,
+        Lexeme::Alternate => Stand::After,
+        Lexeme::Close => Stand::After,
     }
 }
 
 /// Takes a character of a character constant, where an apostrophe may have been read that isn't doubled yet. Whether one
 /// has been read then; `None` behind the last apostrophe.
 fn take_quoted(value: &mut Bytes, pending: bool, byte: u8) -> Result<Option<bool>, AllocError>
-    ensures { IfOk result (λ next. (t : List ℕ) → form.with_quoted value.new next t ≡ form.with_quoted value.old (Some pending) (byte ∷ t)) }
+    ensures { IfOk result (λ next. (t : List ℕ) → reading.with_quoted value.new next t ≡ reading.with_quoted value.old (Some pending) (byte ∷ t)) }
 {
     if pending {
         if byte == b'\'' {
@@ -67,7 +68,7 @@ fn take_quoted(value: &mut Bytes, pending: bool, byte: u8) -> Result<Option<bool
 
 /// What stands before the last apostrophe, which is the first that isn't doubled.
 fn quoted(alloc: Global, text: &[u8]) -> Result<Option<Bytes>, AllocError>
-    ensures { IfOk result (λ value. value ≡ form.read_quoted false text.now) }
+    ensures { IfOk result (λ value. value ≡ reading.read_quoted false text.now) }
 {
     let mut value = Bytes::new(alloc);
     let mut pending = false;
@@ -82,7 +83,7 @@ fn quoted(alloc: Global, text: &[u8]) -> Result<Option<Bytes>, AllocError>
 
 /// The characters that a character constant stands for, where these are one (X3.9 section 4.8.1).
 fn constant_value(alloc: Global, text: &[u8]) -> Result<Option<Bytes>, AllocError>
-    ensures { IfOk result (λ value. value ≡ form.read_characters text.now) }
+    ensures { IfOk result (λ value. value ≡ reading.read_characters text.now) }
 {
     match text {
         [b'\'', inside @ ..] => {
@@ -99,73 +100,76 @@ fn constant_value(alloc: Global, text: &[u8]) -> Result<Option<Bytes>, AllocErro
 }
 
 /// The operator or logical constant that stands between points (X3.9 sections 4.7.1, 6.3.1 and 6.4.1).
-fn word_item<'a>(text: &[u8]) -> Option<Item<'a>>
-    ensures { option_map item_of result ≡ form.read_word text.now }
+fn word_lexeme<'a>(text: &[u8]) -> Option<Lexeme<'a>>
+    ensures { option_map lexeme_of result ≡ reading.read_word text.now }
 {
-    let item = if text == b"LT".as_slice() {
-        Item::Operator(BinaryOp::Lt)
+    let lexeme = if text == b"LT".as_slice() {
+        Lexeme::Operator(BinaryOp::Lt)
     } else if text == b"LE".as_slice() {
-        Item::Operator(BinaryOp::Le)
+        Lexeme::Operator(BinaryOp::Le)
     } else if text == b"EQ".as_slice() {
-        Item::Operator(BinaryOp::Eq)
+        Lexeme::Operator(BinaryOp::Eq)
     } else if text == b"NE".as_slice() {
-        Item::Operator(BinaryOp::Ne)
+        Lexeme::Operator(BinaryOp::Ne)
     } else if text == b"GT".as_slice() {
-        Item::Operator(BinaryOp::Gt)
+        Lexeme::Operator(BinaryOp::Gt)
     } else if text == b"GE".as_slice() {
-        Item::Operator(BinaryOp::Ge)
+        Lexeme::Operator(BinaryOp::Ge)
     } else if text == b"AND".as_slice() {
-        Item::Operator(BinaryOp::And)
+        Lexeme::Operator(BinaryOp::And)
     } else if text == b"OR".as_slice() {
-        Item::Operator(BinaryOp::Or)
+        Lexeme::Operator(BinaryOp::Or)
     } else if text == b"EQV".as_slice() {
-        Item::Operator(BinaryOp::Eqv)
+        Lexeme::Operator(BinaryOp::Eqv)
     } else if text == b"NEQV".as_slice() {
-        Item::Operator(BinaryOp::Neqv)
+        Lexeme::Operator(BinaryOp::Neqv)
     } else if text == b"NOT".as_slice() {
-        Item::Not
+        Lexeme::Not
     } else if text == b"TRUE".as_slice() {
-        Item::Logical(true)
+        Lexeme::Logical(true)
     } else if text == b"FALSE".as_slice() {
-        Item::Logical(false)
+        Lexeme::Logical(false)
     } else {
         return None;
     };
-    Some(item)
+    Some(lexeme)
 }
 
-fn item_of_number<'a>(number: Number<'a>) -> Item<'a>
-    ensures { item_of result ≡ form.item_of_number (number_of number.entry) }
+fn lexeme_of_number<'a>(number: Number<'a>) -> Lexeme<'a>
+    ensures { lexeme_of result ≡ reading.lexeme_of_number (number_of number.entry) }
 {
     match number {
-        Number::Whole(digits) => Item::Integer(digits),
-        Number::Real => Item::Constant,
+        Number::Whole(digits) => Lexeme::Integer(digits),
+        Number::Real => Lexeme::Constant,
     }
 }
 
-fn number_item(tokens: &[Token]) -> Option<(Item<'_>, &[Token])>
-    ensures { option_map (λ p. (item_of p.0, tokens_of p.1.now)) result ≡ form.found_number (tokens_of tokens.now) }
+fn number_lexeme<'t, 'a>(tokens: &'t [Token<'a>]) -> Option<(Lexeme<'a>, &'t [Token<'a>])>
+    ensures { option_map (λ p. (lexeme_of p.0, tokens_of p.1.now)) result ≡ reading.found_number (tokens_of tokens.now) }
 {
     let (number, rest) = number_here(tokens)?;
-    Some((item_of_number(number), rest))
+    Some((lexeme_of_number(number), rest))
 }
 
 /// What stands behind a point: an operator or a logical constant, and another point.
-fn dotted_item(rest: &[Token]) -> Option<(Item<'_>, &[Token])>
-    ensures { option_map (λ p. (item_of p.0, tokens_of p.1.now)) result ≡ form.read_dotted (tokens_of rest.now) }
+fn dotted_lexeme<'t, 'a>(rest: &'t [Token<'a>]) -> Option<(Lexeme<'a>, &'t [Token<'a>])>
+    ensures { option_map (λ p. (lexeme_of p.0, tokens_of p.1.now)) result ≡ reading.read_dotted (tokens_of rest.now) }
 {
     let (word, point) = run_here(rest)?;
     let more = behind_mark(b'.', point)?;
-    let item = word_item(word)?;
-    Some((item, more))
+    let lexeme = word_lexeme(word)?;
+    Some((lexeme, more))
 }
 
-fn point_item<'a>(tokens: &'a [Token], rest: &'a [Token]) -> Option<(Item<'a>, &'a [Token])>
-    ensures { option_map (λ p. (item_of p.0, tokens_of p.1.now)) result ≡ form.point_at (tokens_of tokens.now) (tokens_of rest.now) (form.digits_here (tokens_of rest.now)) }
+fn point_lexeme<'t, 'a>(
+    tokens: &'t [Token<'a>],
+    rest: &'t [Token<'a>],
+) -> Option<(Lexeme<'a>, &'t [Token<'a>])>
+    ensures { option_map (λ p. (lexeme_of p.0, tokens_of p.1.now)) result ≡ reading.point_at (tokens_of tokens.now) (tokens_of rest.now) (reading.digits_here (tokens_of rest.now)) }
 {
     match digits_here(rest) {
-        Some(_) => number_item(tokens),
-        None => dotted_item(rest),
+        Some(_) => number_lexeme(tokens),
+        None => dotted_lexeme(rest),
     }
 }
 
@@ -188,15 +192,15 @@ fn is_label(text: &[u8]) -> bool
 }
 
 /// What is left behind a statement label, if one stands here.
-fn behind_label(tokens: &[Token]) -> Option<&[Token]>
-    ensures { option_map (λ rest. tokens_of rest.now) result ≡ form.if_label (form.digits_here (tokens_of tokens.now)) }
+fn behind_label<'t, 'a>(tokens: &'t [Token<'a>]) -> Option<&'t [Token<'a>]>
+    ensures { option_map (λ rest. tokens_of rest.now) result ≡ reading.if_label (reading.digits_here (tokens_of tokens.now)) }
 {
     let (digits, rest) = digits_here(tokens)?;
     if is_label(digits) { Some(rest) } else { None }
 }
 
 fn is_argument(stand: Stand) -> bool
-    ensures { result ≡ form.is_argument (stand_of stand) }
+    ensures { result ≡ reading.is_argument (stand_of stand) }
 {
     match stand {
         Stand::Argument => true,
@@ -206,7 +210,7 @@ fn is_argument(stand: Stand) -> bool
 }
 
 fn is_after(stand: Stand) -> bool
-    ensures { result ≡ form.is_after (stand_of stand) }
+    ensures { result ≡ reading.is_after (stand_of stand) }
 {
     match stand {
         Stand::Argument => false,
@@ -216,113 +220,123 @@ fn is_after(stand: Stand) -> bool
 }
 
 /// What stands behind a star.
-fn star_item(stand: Stand, rest: &[Token]) -> (Item<'_>, &[Token])
-    ensures { Some (item_of result.0, tokens_of result.1.now) ≡ form.read_star (stand_of stand) (tokens_of rest.now) }
+fn star_lexeme<'t, 'a>(stand: Stand, rest: &'t [Token<'a>]) -> (Lexeme<'a>, &'t [Token<'a>])
+    ensures { Some (lexeme_of result.0, tokens_of result.1.now) ≡ reading.read_star (stand_of stand) (tokens_of rest.now) }
 {
     if let Some(more) = behind_mark(b'*', rest) {
-        return (Item::Operator(BinaryOp::Power), more);
+        return (Lexeme::Operator(BinaryOp::Power), more);
     }
     if is_argument(stand) {
         if let Some(more) = behind_label(rest) {
-            return (Item::Alternate, more);
+            return (Lexeme::Alternate, more);
         }
     }
-    (Item::Operator(BinaryOp::Times), rest)
+    (Lexeme::Operator(BinaryOp::Times), rest)
 }
 
 /// What stands behind a slash.
-fn slash_item(rest: &[Token]) -> (Item<'_>, &[Token])
-    ensures { Some (item_of result.0, tokens_of result.1.now) ≡ form.read_slash (tokens_of rest.now) }
+fn slash_lexeme<'t, 'a>(rest: &'t [Token<'a>]) -> (Lexeme<'a>, &'t [Token<'a>])
+    ensures { Some (lexeme_of result.0, tokens_of result.1.now) ≡ reading.read_slash (tokens_of rest.now) }
 {
     match behind_mark(b'/', rest) {
-        Some(more) => (Item::Operator(BinaryOp::Concat), more),
-        None => (Item::Operator(BinaryOp::Over), rest),
+        Some(more) => (Lexeme::Operator(BinaryOp::Concat), more),
+        None => (Lexeme::Operator(BinaryOp::Over), rest),
     }
 }
 
 /// A parenthesis that opens, or a complex constant.
-fn open_item<'a>(stand: Stand, tokens: &'a [Token], rest: &'a [Token]) -> (Item<'a>, &'a [Token])
-    ensures { Some (item_of result.0, tokens_of result.1.now) ≡ form.read_open (stand_of stand) (tokens_of tokens.now) (tokens_of rest.now) }
+fn open_lexeme<'t, 'a>(
+    stand: Stand,
+    tokens: &'t [Token<'a>],
+    rest: &'t [Token<'a>],
+) -> (Lexeme<'a>, &'t [Token<'a>])
+    ensures { Some (lexeme_of result.0, tokens_of result.1.now) ≡ reading.read_open (stand_of stand) (tokens_of tokens.now) (tokens_of rest.now) }
 {
     if !is_after(stand) {
         if let Some(more) = behind_complex(tokens) {
-            return (Item::Constant, more);
+            return (Lexeme::Constant, more);
         }
     }
-    (Item::Open, rest)
+    (Lexeme::Open, rest)
 }
 
-/// The item that begins with a mark, where all tokens and those behind it are given.
-fn mark_item<'a>(
+/// The lexeme that begins with a mark, where all tokens and those behind it are given.
+fn mark_lexeme<'t, 'a>(
     stand: Stand,
     mark: u8,
-    tokens: &'a [Token],
-    rest: &'a [Token],
-) -> Option<(Item<'a>, &'a [Token])>
-    ensures { option_map (λ p. (item_of p.0, tokens_of p.1.now)) result ≡ form.read_mark (stand_of stand) mark (tokens_of tokens.now) (tokens_of rest.now) }
+    tokens: &'t [Token<'a>],
+    rest: &'t [Token<'a>],
+) -> Option<(Lexeme<'a>, &'t [Token<'a>])>
+    ensures { option_map (λ p. (lexeme_of p.0, tokens_of p.1.now)) result ≡ reading.read_mark (stand_of stand) mark (tokens_of tokens.now) (tokens_of rest.now) }
 {
     match mark {
-        b'(' => Some(open_item(stand, tokens, rest)),
-        b')' => Some((Item::Close, rest)),
-        b',' => Some((Item::Comma, rest)),
-        b':' => Some((Item::Colon, rest)),
-        b'+' => Some((Item::Operator(BinaryOp::Plus), rest)),
-        b'-' => Some((Item::Operator(BinaryOp::Minus), rest)),
-        b'*' => Some(star_item(stand, rest)),
-        b'/' => Some(slash_item(rest)),
-        b'.' => point_item(tokens, rest),
+        b'(' => Some(open_lexeme(stand, tokens, rest)),
+        b')' => Some((Lexeme::Close, rest)),
+        b',' => Some((Lexeme::Comma, rest)),
+        b':' => Some((Lexeme::Colon, rest)),
+        b'+' => Some((Lexeme::Operator(BinaryOp::Plus), rest)),
+        b'-' => Some((Lexeme::Operator(BinaryOp::Minus), rest)),
+        b'*' => Some(star_lexeme(stand, rest)),
+        b'/' => Some(slash_lexeme(rest)),
+        b'.' => point_lexeme(tokens, rest),
         _ => None,
     }
 }
 
-fn name_item<'a>(text: &'a [u8], rest: &'a [Token]) -> Option<(Item<'a>, &'a [Token])>
-    ensures { option_map (λ p. (item_of p.0, tokens_of p.1.now)) result ≡ form.name_at text.now (tokens_of rest.now) }
+fn name_lexeme<'t, 'a>(
+    text: &'a [u8],
+    rest: &'t [Token<'a>],
+) -> Option<(Lexeme<'a>, &'t [Token<'a>])>
+    ensures { option_map (λ p. (lexeme_of p.0, tokens_of p.1.now)) result ≡ reading.name_at text.now (tokens_of rest.now) }
 {
     let word = Word::new(text)?;
-    Some((Item::Name(word), rest))
+    Some((Lexeme::Name(word), rest))
 }
 
-fn digits_item<'a>(tokens: &'a [Token], rest: &'a [Token]) -> Option<(Item<'a>, &'a [Token])>
-    ensures { option_map (λ p. (item_of p.0, tokens_of p.1.now)) result
-        ≡ form.or_found (form.behind_hollerith (tokens_of rest.now)) plain.constant (form.found_number (tokens_of tokens.now)) }
+fn digits_lexeme<'t, 'a>(
+    tokens: &'t [Token<'a>],
+    rest: &'t [Token<'a>],
+) -> Option<(Lexeme<'a>, &'t [Token<'a>])>
+    ensures { option_map (λ p. (lexeme_of p.0, tokens_of p.1.now)) result
+        ≡ reading.or_found (reading.behind_hollerith (tokens_of rest.now)) plain.constant (reading.found_number (tokens_of tokens.now)) }
 {
     match behind_hollerith(rest) {
-        Some(more) => Some((Item::Constant, more)),
-        None => number_item(tokens),
+        Some(more) => Some((Lexeme::Constant, more)),
+        None => number_lexeme(tokens),
     }
 }
 
-fn text_item<'a>(
+fn text_lexeme<'t, 'a>(
     alloc: Global,
     text: &[u8],
-    rest: &'a [Token],
-) -> Result<Option<(Item<'a>, &'a [Token])>, AllocError>
-    ensures { IfOk result (λ found. option_map (λ p. (item_of p.0, tokens_of p.1.now)) found ≡ form.characters_at text.now (tokens_of rest.now)) }
+    rest: &'t [Token<'a>],
+) -> Result<Option<(Lexeme<'a>, &'t [Token<'a>])>, AllocError>
+    ensures { IfOk result (λ found. option_map (λ p. (lexeme_of p.0, tokens_of p.1.now)) found ≡ reading.characters_at text.now (tokens_of rest.now)) }
 {
     match constant_value(alloc, text)? {
-        Some(value) => Ok(Some((Item::Characters(value), rest))),
+        Some(value) => Ok(Some((Lexeme::Characters(value), rest))),
         None => Ok(None),
     }
 }
 
-/// The item that stands here (X3.9 section 2.2), and what is left behind it. `None` where none does. It fails for want of
+/// The lexeme that stands here (X3.9 section 2.2), and what is left behind it. `None` where none does. It fails for want of
 /// memory alone.
-#[tactic(auto, unfolding(crate::specs::ItemReading::read_item))]
-pub fn item_here<'a>(
+#[tactic(auto, unfolding(crate::specs::LexemeReading::read_lexeme))]
+pub fn lexeme_here<'t, 'a>(
     alloc: Global,
     stand: Stand,
-    tokens: &'a [Token],
-) -> Result<Option<(Item<'a>, &'a [Token])>, AllocError>
-    ensures { IfOk result (λ found. option_map (λ p. (item_of p.0, tokens_of p.1.now)) found ≡ form.read_item (stand_of stand) (tokens_of tokens.now)) }
+    tokens: &'t [Token<'a>],
+) -> Result<Option<(Lexeme<'a>, &'t [Token<'a>])>, AllocError>
+    ensures { IfOk result (λ found. option_map (λ p. (lexeme_of p.0, tokens_of p.1.now)) found ≡ reading.read_lexeme (stand_of stand) (tokens_of tokens.now)) }
 {
     let [token, rest @ ..] = tokens else {
         return Ok(None);
     };
-    let text = token.text.as_slice();
+    let text = token.text;
     match token.kind {
-        TokenKind::Run => Ok(name_item(text, rest)),
-        TokenKind::Digits => Ok(digits_item(tokens, rest)),
-        TokenKind::Text => text_item(alloc, text, rest),
-        TokenKind::Mark => Ok(mark_item(stand, first_or_0(text), tokens, rest)),
+        TokenKind::Run => Ok(name_lexeme(text, rest)),
+        TokenKind::Digits => Ok(digits_lexeme(tokens, rest)),
+        TokenKind::Text => text_lexeme(alloc, text, rest),
+        TokenKind::Mark => Ok(mark_lexeme(stand, first_or_0(text), tokens, rest)),
     }
 }

@@ -1,37 +1,12 @@
 // Converts FORTRAN 77 sources to Fortran 90.
 #![tactic(auto)]
 
-mod answers;
-mod built_expression;
-mod convert;
-mod expression;
-mod free_text;
-mod laws;
-mod lines;
-mod map;
-mod memory;
-mod printing;
-mod refusals;
-mod remarks;
-mod report;
-mod statement;
-mod status;
-mod top;
-mod unit_reader;
-mod variables;
-mod words;
-mod writing;
-mod written;
-
-pub use laws::written_is_proper;
-pub use memory::in_memory;
-pub use status::Status;
+use command::{Status, modern};
 use std::alloc::AllocError;
 use std::env;
 use std::io::ErrorKind;
 use std::process::ExitCode;
 use text_base::{DiskShelf, StdSink};
-pub use top::modern;
 
 // The words after the program's own name. Where one of them can't be had they form no command.
 fn arguments(rt: &HostRuntime) -> Result<Vec<String>, AllocError> {
@@ -60,10 +35,3 @@ fn main(rt: HostRuntime) -> ExitCode {
     let status = modern(rt.alloc(), &words, &mut shelf, &mut out);
     ExitCode::from(status.code())
 }
-
-#[cfg(test)]
-mod tests;
-#[cfg(test)]
-mod tests_back;
-#[cfg(test)]
-mod tests_cards;

@@ -1,3 +1,11 @@
-pub mod Words
-pub mod Views
-pub mod TokenViews
+pub mod Word
+pub mod Kind
+pub mod KindReading
+pub mod PieceList
+pub mod PieceSlice
+pub mod PieceReading
+pub mod PieceReader
+pub mod Outline
+pub mod Token
+pub mod TokenReading
+pub mod Cutting

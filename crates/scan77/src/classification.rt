@@ -1,11 +1,12 @@
 // Which kind a statement has.
-ghost use Rattle.std.specs.Prelude.{◌≡◌, ◌++◌, map, Some};
+ghost use Rattle.std.specs.Prelude.{◌≡◌, ◌++◌, map, codes, Some};
 ghost use Rattle.std.specs.Option.{option_map, option_and_then};
-ghost use Rattle.tree77.specs.Kinds as plain;
-ghost use Rattle.tree77.specs.Kinds.{outline, accepted, refused, IsKind};
-ghost use Rattle.tree77.specs.KindReading as reading;
-ghost use Rattle.scan77.specs.Words.{word_text};
-ghost use Rattle.scan77.specs.Views.{outline_of, Answers};
+ghost use Rattle.tree77.specs.Kinds.{outline_of, accepted, refused, accepted_types, refused_types, IsKind};
+ghost use Rattle.scan77.specs.KindReading as reading;
+ghost use Rattle.scan77.specs.Kind.{kind_of};
+ghost use Rattle.scan77.specs.Outline.{left_of};
+ghost use Rattle.scan77.specs.PieceSlice.{slice_of};
+ghost use Rattle.scan77.specs.Word.{word_text};
 
 use crate::outline::Outline;
 use crate::parts::{
@@ -13,20 +14,22 @@ use crate::parts::{
     reads_dummy_list, reads_equals,
 };
 use crate::word::WORDS;
-use crate::{Kind, Word};
-use card_reader::Card;
-use text_base::Cause;
-use tree77::one_kind;
+use crate::{Kind, PieceSlice, Word, one_kind};
+
+/// The types that a FUNCTION statement may begin with (X3.9 section 15.5.1), and those with which it is refused.
+const ACCEPTED_TYPES: [Word; 3] = [Word::Integer, Word::Logical, Word::Character];
+
+const REFUSED_TYPES: [Word; 3] = [Word::Real, Word::DoublePrecision, Word::Complex];
 
 fn is_format(label: u32, at: Outline<'_>) -> bool
-    ensures { result ≡ reading.reads_format label (outline_of at.entry) }
+    ensures { result ≡ reading.reads_format label (left_of at.entry) }
 {
     label != 0 && behind_text(at, "FORMAT(").is_some()
 }
 
 /// What is left behind DO, digits and an optional comma.
 fn behind_loop_label(at: Outline<'_>) -> Option<Outline<'_>>
-    ensures { option_map outline_of result ≡ reading.behind_loop_label (outline_of at.entry) }
+    ensures { option_map left_of result ≡ reading.behind_loop_label (left_of at.entry) }
 {
     let label = behind_text(at, "DO")?;
     let rest = behind_number(label)?;
@@ -35,7 +38,7 @@ fn behind_loop_label(at: Outline<'_>) -> Option<Outline<'_>>
 
 /// Whether an equals sign stands here, and later a comma outside parentheses.
 fn is_range(at: Outline<'_>) -> bool
-    ensures { result ≡ reading.reads_range (outline_of at.entry) }
+    ensures { result ≡ reading.reads_range (left_of at.entry) }
 {
     match at.next() {
         Some((b'=', more)) => has_comma(more),
@@ -44,14 +47,14 @@ fn is_range(at: Outline<'_>) -> bool
 }
 
 fn behind_loop_variable(at: Outline<'_>) -> Option<Outline<'_>>
-    ensures { option_map outline_of result ≡ option_and_then reading.behind_name (reading.behind_loop_label (outline_of at.entry)) }
+    ensures { option_map left_of result ≡ option_and_then reading.behind_name (reading.behind_loop_label (left_of at.entry)) }
 {
     let variable = behind_loop_label(at)?;
     behind_name(variable)
 }
 
 fn is_loop(at: Outline<'_>) -> bool
-    ensures { result ≡ reading.reads_loop (outline_of at.entry) }
+    ensures { result ≡ reading.reads_loop (left_of at.entry) }
 {
     match behind_loop_variable(at) {
         Some(rest) => is_range(rest),
@@ -61,7 +64,7 @@ fn is_loop(at: Outline<'_>) -> bool
 
 /// Whether an equals sign stands here, or behind a group.
 fn is_equals_past_one(at: Outline<'_>) -> bool
-    ensures { result ≡ reading.reads_past reading.reads_equals (outline_of at.entry) }
+    ensures { result ≡ reading.reads_past reading.reads_equals (left_of at.entry) }
 {
     if reads_equals(at) {
         return true;
@@ -74,7 +77,7 @@ fn is_equals_past_one(at: Outline<'_>) -> bool
 
 /// Whether an equals sign stands here, or behind one or two groups.
 fn is_equals_past_two(at: Outline<'_>) -> bool
-    ensures { result ≡ reading.reads_past (reading.reads_past reading.reads_equals) (outline_of at.entry) }
+    ensures { result ≡ reading.reads_past (reading.reads_past reading.reads_equals) (left_of at.entry) }
 {
     if reads_equals(at) {
         return true;
@@ -86,7 +89,7 @@ fn is_equals_past_two(at: Outline<'_>) -> bool
 }
 
 fn is_assignment(at: Outline<'_>) -> bool
-    ensures { result ≡ reading.reads_assignment (outline_of at.entry) }
+    ensures { result ≡ reading.reads_assignment (left_of at.entry) }
 {
     match behind_name(at) {
         Some(rest) => is_equals_past_two(rest),
@@ -94,22 +97,21 @@ fn is_assignment(at: Outline<'_>) -> bool
     }
 }
 
-/// What is left behind INTEGER, LOGICAL or CHARACTER.
-fn behind_type(at: Outline<'_>) -> Option<Outline<'_>>
-    ensures { option_map outline_of result ≡ reading.behind_type (outline_of at.entry) }
+/// The first of some types that stands here, and what is left behind it.
+fn behind_type<'a>(at: Outline<'a>, types: &[Word]) -> Option<(Word, Outline<'a>)>
+    ensures { option_map (λ r. (word_text r.0, left_of r.1)) result ≡ reading.behind_type (map word_text types.now) (left_of at.entry) }
 {
-    if let Some(rest) = behind_text(at, "INTEGER") {
-        return Some(rest);
+    for word in types {
+        if let Some(rest) = behind_text(at, word.text()) {
+            return Some((*word, rest));
+        }
     }
-    if let Some(rest) = behind_text(at, "LOGICAL") {
-        return Some(rest);
-    }
-    behind_text(at, "CHARACTER")
+    None
 }
 
 /// What is left behind a star and digits or a group, and all where no star stands here.
 fn behind_length(at: Outline<'_>) -> Option<Outline<'_>>
-    ensures { option_map outline_of result ≡ reading.behind_length (outline_of at.entry) }
+    ensures { option_map left_of result ≡ reading.behind_length (left_of at.entry) }
 {
     match at.next() {
         Some((b'*', more)) => match behind_number(more) {
@@ -120,18 +122,18 @@ fn behind_length(at: Outline<'_>) -> Option<Outline<'_>>
     }
 }
 
-/// What is left behind a type with its length, FUNCTION and a name.
+/// What is left behind a length, FUNCTION and a name.
 fn behind_function_name(at: Outline<'_>) -> Option<Outline<'_>>
-    ensures { option_map outline_of result ≡ option_and_then reading.behind_name (reading.behind_function (outline_of at.entry)) }
+    ensures { option_map left_of result ≡ option_and_then reading.behind_name (option_and_then (reading.behind_text (codes "FUNCTION")) (reading.behind_length (left_of at.entry))) }
 {
-    let size = behind_type(at)?;
-    let word = behind_length(size)?;
+    let word = behind_length(at)?;
     let name = behind_text(word, "FUNCTION")?;
     behind_name(name)
 }
 
-fn is_typed_function(at: Outline<'_>) -> bool
-    ensures { result ≡ reading.reads_function (outline_of at.entry) }
+/// Whether a length, FUNCTION, a name and dummies stand here, and no more.
+fn is_header(at: Outline<'_>) -> bool
+    ensures { result ≡ reading.reads_header (left_of at.entry) }
 {
     match behind_function_name(at) {
         Some(rest) => reads_dummy_list(rest),
@@ -139,8 +141,28 @@ fn is_typed_function(at: Outline<'_>) -> bool
     }
 }
 
+/// The type, one of some, with which a FUNCTION statement begins.
+fn function_type(at: Outline<'_>, types: &[Word]) -> Option<Word>
+    ensures { option_map word_text result ≡ reading.function_type (map word_text types.now) (left_of at.entry) }
+{
+    let (word, rest) = behind_type(at, types)?;
+    if is_header(rest) { Some(word) } else { None }
+}
+
+fn is_typed_function(at: Outline<'_>) -> bool
+    ensures { result ≡ reading.is_some (reading.function_type accepted_types (left_of at.entry)) }
+{
+    function_type(at, &ACCEPTED_TYPES).is_some()
+}
+
+fn refused_type(at: Outline<'_>) -> Option<Word>
+    ensures { option_map word_text result ≡ reading.function_type refused_types (left_of at.entry) }
+{
+    function_type(at, &REFUSED_TYPES)
+}
+
 fn is_labelled_while(at: Outline<'_>) -> bool
-    ensures { result ≡ reading.reads_while (outline_of at.entry) }
+    ensures { result ≡ reading.reads_while (left_of at.entry) }
 {
     match behind_loop_label(at) {
         Some(rest) => behind_text(rest, "WHILE").is_some(),
@@ -148,89 +170,102 @@ fn is_labelled_while(at: Outline<'_>) -> bool
     }
 }
 
+/// The keyword, if it stands here and is longer than the longest so far, and else that one.
+fn longer_here(at: Outline<'_>, longest: Option<Word>, word: Word) -> Option<Word>
+    ensures { option_map word_text result ≡ reading.longer (option_map word_text longest) (reading.word_here (word_text word) (left_of at.entry)) }
+{
+    if behind_text(at, word.text()).is_none() {
+        return longest;
+    }
+    match longest {
+        Some(longest) => {
+            if longest.text().len() < word.text().len() {
+                Some(word)
+            } else {
+                Some(longest)
+            }
+        }
+        None => Some(word),
+    }
+}
+
 /// The longest of some keywords that stands here, the first of those of one length.
 fn longest_in(at: Outline<'_>, words: &[Word]) -> Option<Word>
-    ensures { option_map word_text result ≡ reading.longest_of (map word_text words.now) (outline_of at.entry) }
+    ensures { option_map word_text result ≡ reading.longest_of (map word_text words.now) (left_of at.entry) }
 {
-    let (first, rest) = words.split_first()?;
-    let longest = longest_in(at, rest);
-    if behind_text(at, first.text()).is_some() {
-        Some(longer(*first, longest))
-    } else {
-        longest
+    let mut longest = None;
+    for word in words {
+        longest = longer_here(at, longest, *word);
     }
+    longest
 }
 
 /// The longest keyword that stands here.
 fn longest_word(at: Outline<'_>) -> Option<Word>
-    ensures { option_map word_text result ≡ reading.longest_of (accepted ++ refused) (outline_of at.entry) }
+    ensures { option_map word_text result ≡ reading.longest_of (accepted ++ refused) (left_of at.entry) }
 {
     longest_in(at, &WORDS)
 }
 
-/// The longer of two keywords, the first where they are equal.
-fn longer(word: Word, other: Option<Word>) -> Word
-    ensures { Some (word_text result) ≡ reading.longer (Some (word_text word)) (option_map word_text other) }
-{
-    match other {
-        Some(other) => {
-            if word.text().len() < other.text().len() {
-                other
-            } else {
-                word
-            }
-        }
-        None => word,
-    }
-}
-
 /// The kind of a statement by its longest keyword.
-fn keyword_kind(at: Outline<'_>) -> Result<Kind, Cause>
-    ensures { Answers result (reading.kind_of_word (reading.longest_of (accepted ++ refused) (outline_of at.entry))) }
+fn keyword_kind(at: Outline<'_>) -> Kind
+    ensures { kind_of result ≡ reading.kind_of_word (reading.longest_of (accepted ++ refused) (left_of at.entry)) }
 {
     match longest_word(at) {
         Some(word) => {
             if word.is_accepted() {
-                Ok(Kind::Keyword(word))
+                Kind::Keyword(word)
             } else {
-                Err(Cause::Unsupported)
+                Kind::Unsupported(word)
             }
         }
-        None => Err(Cause::NotAStatement),
+        None => Kind::Nothing,
     }
 }
 
-/// The kind of a statement with this label.
-fn kind_at(label: u32, at: Outline<'_>) -> Result<Kind, Cause>
-    ensures { Answers result (reading.read_kind label (outline_of at.entry)) }
+/// The kind of a statement that is neither a FORMAT, a DO, an assignment nor a FUNCTION with an accepted type.
+fn other_kind(at: Outline<'_>) -> Kind
+    ensures { kind_of result ≡ reading.other_kind (left_of at.entry) }
 {
-    if is_format(label, at) {
-        Ok(Kind::Format)
-    } else if is_loop(at) {
-        Ok(Kind::Do)
-    } else if is_assignment(at) {
-        Ok(Kind::Assign)
-    } else if is_typed_function(at) {
-        Ok(Kind::Keyword(Word::Function))
+    if let Some(word) = refused_type(at) {
+        Kind::RefusedFunction(word)
     } else if is_labelled_while(at) {
-        Err(Cause::Unsupported)
+        Kind::Unsupported(Word::DoWhile)
     } else {
         keyword_kind(at)
     }
 }
 
-/// The kind of a statement (X3.9 sections 7 to 16): a FORMAT with a label, a DO, an assignment or statement function, or the
-/// statement of its longest keyword. It takes no memory.
+/// The kind of a statement with this label.
+fn kind_at(label: u32, at: Outline<'_>) -> Kind
+    ensures { kind_of result ≡ reading.read_kind label (left_of at.entry) }
+{
+    if is_format(label, at) {
+        Kind::Format
+    } else if is_loop(at) {
+        Kind::Do
+    } else if is_assignment(at) {
+        Kind::Assign
+    } else if is_typed_function(at) {
+        Kind::Keyword(Word::Function)
+    } else {
+        other_kind(at)
+    }
+}
+
+/// The kind of a statement (X3.9 sections 7 to 16). It takes no memory.
 ///
-/// In: a card with a mark for each of its characters.
+/// In: the label of the statement, 0 where it has none, and its pieces; those of the statement under a logical IF have
+/// label 0.
 ///
-/// Out: the kind, or the cause why there is none. The causes come only where it is none of a FORMAT, a DO, an assignment
-/// and a FUNCTION statement that begins with a type: `Unsupported` for DO, a label and WHILE and else where the longest
-/// keyword is one of a statement that isn't accepted, and `NotAStatement` where no keyword begins the statement.
-pub fn classify(card: &Card) -> Result<Kind, Cause>
-    ensures always { (kind : plain.Kind) → IsKind card.now.label (outline card.now.text card.now.kept) kind → Answers result kind }
-    ensures only { (kind : plain.Kind) → Answers result kind → IsKind card.now.label (outline card.now.text card.now.kept) kind }
+/// Out: its kind, the first of these that it has: `Format` with a label and `FORMAT(`; `Do`; `Assign`, which is an
+/// assignment or a statement function; `Keyword(Function)` where it begins with a type, its length, FUNCTION and a name
+/// with dummies; `RefusedFunction` with the type where that is REAL, DOUBLEPRECISION or COMPLEX; `Unsupported(DoWhile)` for
+/// DO, a label and WHILE; `Keyword` with the longest keyword that begins it, or `Unsupported` where its statement isn't
+/// accepted; and `Nothing` where no keyword does.
+pub fn classify(label: u32, pieces: PieceSlice<'_>) -> Kind
+    ensures { IsKind label (outline_of (slice_of pieces.entry)) (kind_of result) }
 {
     one_kind();
-    kind_at(card.label, Outline::of(card))
+    kind_at(label, Outline::of(pieces))
 }

@@ -1,180 +1,144 @@
 // Cuts the pieces of a statement into tokens.
-ghost use Rattle.std.specs.Prelude.{◌≡◌, ◌∷◌, List, Option, map, IfOk, OnOk};
-ghost use Rattle.std.specs.Option.{option_map, option_and_then};
-ghost use Rattle.text_base.specs.Pieces as form;
-ghost use Rattle.tree77.specs.Tokens as plain;
-ghost use Rattle.scan77.specs.TokenViews.{piece_of, open_of, kind_of_token, view, placed, after};
+ghost use Rattle.std.specs.Prelude.{◌≡◌, ◌≢◌, ◌∷◌, ◌++◌, ◌<◌, ◌≤◌, ℕ, List, [], length, true, IfOk, IfSome, Err, None};
+ghost use Rattle.text_base.specs.Chars.{is_digit, is_name_byte};
+ghost use Rattle.text_base.specs.Pieces.{plain};
+ghost use Rattle.tree77.specs.Tokens.{is_mark, begins_none, MayPrecede, IsCut, IsStuck, token_pieces};
+ghost use Rattle.scan77.specs.Cutting.{behind_passing, IsFirst};
+ghost use Rattle.scan77.specs.PieceList.{kept_and_pieces};
+ghost use Rattle.scan77.specs.PieceSlice.{slice_of};
+ghost use Rattle.scan77.specs.Token.{token_kind_of, token_of, tokens_of};
+ghost use Rattle.scan77.specs.declared.scan_error.ScanError.TheVariants.{NoToken};
 
-use crate::pieces::{Piece, one_byte};
-use crate::{Token, TokenKind, Tokens};
+use crate::mark::Mark;
+use crate::{PieceSlice, ScanError, Token, TokenKind, Tokens};
 use sqlite_items::Items;
-use std::alloc::{AllocError, Global};
+use std::alloc::Global;
 use text_base::chars::{is_digit, is_name_byte, is_upper};
-use text_base::{Bytes, Place};
-
-/// The run or the digits that are being read, as far as they have come.
-#[derive(Drop)]
-enum Open {
-    Nothing,
-    Run(Bytes),
-    Digits(Bytes),
-}
 
 fn is_mark(byte: u8) -> bool
-    ensures { result ≡ plain.is_mark byte }
+    ensures { result ≡ is_mark byte }
 {
-    byte == b'('
-        || byte == b')'
-        || byte == b','
-        || byte == b'='
-        || byte == b'+'
-        || byte == b'-'
-        || byte == b'*'
-        || byte == b'/'
-        || byte == b':'
-        || byte == b'.'
+    matches!(
+        byte,
+        b'(' | b')' | b',' | b'=' | b'+' | b'-' | b'*' | b'/' | b':' | b'.'
+    )
 }
 
-/// Appends a token.
-fn add(place: Place, kind: TokenKind, text: Bytes, tokens: &mut Tokens) -> Result<(), AllocError>
-    ensures { OnOk result ((more : Option (List plain.Token)) → after (map view tokens.new) place more
-        ≡ after (map view tokens.old) place (option_map (λ ts. record { kind = kind_of_token kind; text = text } ∷ ts) more)) }
+/// What is left behind all first letters, digits and underscores outside kept text.
+fn behind_run(pieces: PieceSlice<'_>) -> PieceSlice<'_>
+    ensures pieces { slice_of result ≡ behind_passing is_name_byte (slice_of pieces.entry) }
+    ensures within { length result.text.now ≤ length pieces.entry.text.now }
 {
-    tokens.push(Token { kind, text, place })?;
-    Ok(())
-}
-
-/// Appends the run or the digits that have been read.
-fn close(place: Place, opened: Open, tokens: &mut Tokens) -> Result<(), AllocError>
-    ensures { OnOk result ((more : Option (List plain.Token)) → after (map view tokens.new) place more ≡ after (map view tokens.old) place (plain.with_open (open_of opened) more)) }
-{
-    match opened {
-        Open::Nothing => Ok(()),
-        Open::Run(text) => add(place, TokenKind::Run, text, tokens),
-        Open::Digits(text) => add(place, TokenKind::Digits, text, tokens),
+    let mut rest = pieces;
+    while let Some((byte, more)) = rest.split_plain() {
+        if !is_name_byte(byte) {
+            return rest;
+        }
+        rest = more;
     }
+    rest
 }
 
-/// Begins a token with a character outside kept text. A mark is one by itself. `None` where the character begins no token.
-fn begin(
-    alloc: Global,
-    place: Place,
-    byte: u8,
-    tokens: &mut Tokens,
-) -> Result<Option<Open>, AllocError>
-    ensures { IfOk result (λ begun. (more : plain.Open → Option (List plain.Token)) → after (map view tokens.new) place (option_and_then (λ o. more (open_of o)) begun)
-        ≡ after (map view tokens.old) place (plain.begun_at byte more)) }
+/// What is left behind all first digits outside kept text.
+fn behind_digits(pieces: PieceSlice<'_>) -> PieceSlice<'_>
+    ensures pieces { slice_of result ≡ behind_passing is_digit (slice_of pieces.entry) }
+    ensures within { length result.text.now ≤ length pieces.entry.text.now }
+{
+    let mut rest = pieces;
+    while let Some((byte, more)) = rest.split_plain() {
+        if !is_digit(byte) {
+            return rest;
+        }
+        rest = more;
+    }
+    rest
+}
+
+/// What is left behind the further characters of a kept text.
+fn behind_kept(pieces: PieceSlice<'_>) -> PieceSlice<'_>
+    ensures pieces { slice_of result ≡ (kept_and_pieces pieces.entry.text.now pieces.entry.marks.now).1 }
+    ensures within { length result.text.now ≤ length pieces.entry.text.now }
+{
+    let mut rest = pieces;
+    while let Some((_, Mark::Further, more)) = rest.split_first() {
+        rest = more;
+    }
+    rest
+}
+
+/// What a token is that begins with this character outside kept text, and what is left behind it. `None` where it begins
+/// no token.
+fn plain_token<'a>(byte: u8, more: PieceSlice<'a>) -> Option<(TokenKind, PieceSlice<'a>)>
+    ensures some { IfSome result (λ r. IsFirst (token_kind_of r.0) (plain byte ∷ slice_of more.entry) (slice_of r.1)) }
+    ensures within { IfSome result (λ r. length r.1.text.now ≤ length more.entry.text.now) }
+    ensures none { result ≡ None → begins_none byte ≡ true }
 {
     if is_upper(byte) {
-        return Ok(Some(Open::Run(one_byte(alloc, byte)?)));
+        Some((TokenKind::Run, behind_run(more)))
+    } else if is_digit(byte) {
+        Some((TokenKind::Digits, behind_digits(more)))
+    } else if is_mark(byte) {
+        Some((TokenKind::Mark, more))
+    } else {
+        None
     }
-    if is_digit(byte) {
-        return Ok(Some(Open::Digits(one_byte(alloc, byte)?)));
-    }
-    if is_mark(byte) {
-        let text = one_byte(alloc, byte)?;
-        add(place, TokenKind::Mark, text, tokens)?;
-        return Ok(Some(Open::Nothing));
-    }
-    Ok(None)
 }
 
-/// Closes what is open and begins a token with the character.
-fn begin_next(
-    alloc: Global,
-    place: Place,
-    byte: u8,
-    opened: Open,
-    tokens: &mut Tokens,
-) -> Result<Option<Open>, AllocError>
-    ensures { IfOk result (λ begun. (more : plain.Open → Option (List plain.Token)) → after (map view tokens.new) place (option_and_then (λ o. more (open_of o)) begun)
-        ≡ after (map view tokens.old) place (plain.with_open (open_of opened) (plain.begun_at byte more))) }
+/// What the first token is, and what is left behind it. `None` where the pieces begin with none.
+fn first_token<'a>(pieces: PieceSlice<'a>) -> Option<(TokenKind, PieceSlice<'a>)>
+    ensures some { IfSome result (λ r. IsFirst (token_kind_of r.0) (slice_of pieces.entry) (slice_of r.1)) }
+    ensures shorter { IfSome result (λ r. length r.1.text.now < length pieces.entry.text.now) }
+    ensures none { result ≡ None → slice_of pieces.entry ≢ [] → IsStuck (slice_of pieces.entry) }
 {
-    close(place, opened, tokens)?;
-    begin(alloc, place, byte, tokens)
-}
-
-/// Takes a character outside kept text. `None` where it begins no token.
-fn take_plain(
-    alloc: Global,
-    place: Place,
-    byte: u8,
-    opened: Open,
-    tokens: &mut Tokens,
-) -> Result<Option<Open>, AllocError>
-    ensures { IfOk result (λ begun. (more : plain.Open → Option (List plain.Token)) → after (map view tokens.new) place (option_and_then (λ o. more (open_of o)) begun)
-        ≡ after (map view tokens.old) place (plain.read_next (open_of opened) byte more)) }
-{
-    match opened {
-        Open::Run(text) => {
-            if is_name_byte(byte) {
-                let mut text = text;
-                text.push(byte)?;
-                return Ok(Some(Open::Run(text)));
-            }
-            begin_next(alloc, place, byte, Open::Run(text), tokens)
-        }
-        Open::Digits(text) => {
-            if is_digit(byte) {
-                let mut text = text;
-                text.push(byte)?;
-                return Ok(Some(Open::Digits(text)));
-            }
-            begin_next(alloc, place, byte, Open::Digits(text), tokens)
-        }
-        Open::Nothing => begin(alloc, place, byte, tokens),
+    let (byte, mark, more) = pieces.split_first()?;
+    match mark {
+        Mark::Plain => plain_token(byte, more),
+        Mark::Open => None,
+        Mark::First | Mark::Further => Some((TokenKind::Text, behind_kept(more))),
     }
 }
 
-/// Appends a token for a kept text.
-fn add_text(
-    alloc: Global,
-    place: Place,
-    text: &[u8],
-    opened: Open,
-    tokens: &mut Tokens,
-) -> Result<(), AllocError>
-    ensures { OnOk result ((more : Option (List plain.Token)) → after (map view tokens.new) place more
-        ≡ after (map view tokens.old) place (plain.with_open (open_of opened) (option_map (λ ts. record { kind = plain.kept; text = text.now } ∷ ts) more))) }
+/// The characters of some pieces before what is left of them.
+fn before<'a>(pieces: PieceSlice<'a>, rest: PieceSlice<'a>) -> &'a [u8]
+    requires { (t : List ℕ) × (pieces.text.now ≡ t ++ rest.text.now) }
+    ensures { pieces.entry.text.now ≡ result.now ++ rest.entry.text.now }
 {
-    close(place, opened, tokens)?;
-    let text = Bytes::from_slice(alloc, text)?;
-    add(place, TokenKind::Text, text, tokens)
+    let count = pieces.text.len() - rest.text.len();
+    &pieces.text[..count]
 }
 
-/// Takes a piece. `None` where it begins no token.
-fn take_piece(
-    alloc: Global,
-    place: Place,
-    piece: &Piece,
-    opened: Open,
-    tokens: &mut Tokens,
-) -> Result<Option<Open>, AllocError>
-    ensures { IfOk result (λ begun. (ps : List form.Piece) → after (map view tokens.new) place (option_and_then (λ o. plain.read_tokens ps (open_of o)) begun)
-        ≡ after (map view tokens.old) place (plain.read_tokens (piece_of piece.now ∷ ps) (open_of opened))) }
+/// The first token, and what is left behind it. `None` where the pieces begin with none.
+fn next_token<'a>(pieces: PieceSlice<'a>) -> Option<(Token<'a>, PieceSlice<'a>)>
+    ensures some { IfSome result (λ r. (slice_of pieces.entry ≡ token_pieces (token_of r.0) ++ slice_of r.1) × MayPrecede (token_of r.0) (slice_of r.1)) }
+    ensures shorter { IfSome result (λ r. length r.1.text.now < length pieces.entry.text.now) }
+    ensures none { result ≡ None → slice_of pieces.entry ≢ [] → IsStuck (slice_of pieces.entry) }
 {
-    match piece {
-        Piece::Plain(byte) => take_plain(alloc, place, *byte, opened, tokens),
-        Piece::Whole(text) => {
-            add_text(alloc, place, text.as_slice(), opened, tokens)?;
-            Ok(Some(Open::Nothing))
-        }
-        Piece::Broken(_) => Ok(None),
-    }
+    let (kind, rest) = first_token(pieces)?;
+    let text = before(pieces, rest);
+    Some((Token { kind, text }, rest))
 }
 
-/// The tokens of the pieces of a statement at a place. `None` where they can't be cut. It fails for want of memory alone.
-pub fn cut(alloc: Global, place: Place, pieces: &[Piece]) -> Result<Option<Tokens>, AllocError>
-    ensures { IfOk result (λ tokens. option_map (map view) tokens ≡ option_map (map (placed place)) (plain.read_tokens (map piece_of pieces.now) plain.no_token)) }
+/// Cuts pieces into tokens (X3.9 section 3.1.6): longest runs of letters, digits and underscores that begin with a letter,
+/// longest other digits, kept texts and marks.
+///
+/// In: the pieces of a statement, or a part of them.
+///
+/// Out: the tokens in order, which lend their characters from the pieces. `NoToken` comes exactly where, behind tokens, a
+/// character constant isn't closed or a character begins no token, and `Memory` for want of memory alone.
+pub fn cut<'a>(alloc: Global, pieces: PieceSlice<'a>) -> Result<Tokens<'a>, ScanError>
+    ensures cut { IfOk result (λ tokens. IsCut (slice_of pieces.entry) (tokens_of tokens)) }
+    ensures stuck { result ≡ Err NoToken → IsStuck (slice_of pieces.entry) }
 {
     let mut tokens = Items::new(alloc);
-    let mut opened = Open::Nothing;
-    for piece in pieces {
-        match take_piece(alloc, place, piece, opened, &mut tokens)? {
-            Some(next) => opened = next,
-            None => return Ok(None),
+    let mut rest = pieces;
+    while !rest.is_empty() {
+        match next_token(rest) {
+            Some((token, more)) => {
+                tokens.push(token)?;
+                rest = more;
+            }
+            None => return Err(ScanError::NoToken),
         }
     }
-    close(place, opened, &mut tokens)?;
-    Ok(Some(tokens))
+    Ok(tokens)
 }

@@ -4,20 +4,26 @@
 mod classification;
 mod cutting;
 mod kind;
+mod laws;
+mod mark;
 mod outline;
 mod parts;
-mod pieces;
+mod piece_list;
+mod piece_reader;
+mod piece_slice;
 mod scan_error;
 mod token;
-mod tokenizing;
 mod word;
 
 pub use classification::classify;
+pub use cutting::cut;
 pub use kind::Kind;
+pub use laws::{
+    cuts_are_parted, one_cut, one_format, one_kind, one_list_of_pieces, outlines_are_equal,
+};
+pub use piece_list::Pieces;
+pub use piece_reader::pieces;
+pub use piece_slice::PieceSlice;
 pub use scan_error::ScanError;
 pub use token::{Token, TokenKind, Tokens};
-pub use tokenizing::{read_tokens, tokens};
 pub use word::Word;
-
-#[cfg(test)]
-mod tests;

@@ -1,54 +1,47 @@
-// The characters of a statement without blanks and with kept text aside.
+// The characters of a statement with kept text aside.
 ghost use Rattle.std.specs.Prelude.{◌≡◌, ◌<◌, length, IfSome};
 ghost use Rattle.std.specs.Option.{option_map};
-ghost use Rattle.tree77.specs.Kinds.{outline};
-ghost use Rattle.scan77.specs.Views.{outline_of, uncons};
+ghost use Rattle.tree77.specs.Kinds.{outline_of};
+ghost use Rattle.scan77.specs.PieceSlice.{slice_of};
+ghost use Rattle.scan77.specs.Outline.{left_of, uncons};
 
-use card_reader::Card;
-use text_base::chars::to_upper;
+use crate::PieceSlice;
+use crate::mark::Mark;
 
-/// What is left of a statement: its characters, and a mark for each, 1 where it is kept text.
+/// What is left of a statement: its characters, and a mark for each.
 #[derive(Clone, Copy)]
 pub struct Outline<'a> {
     text: &'a [u8],
-    kept: &'a [u8],
+    marks: &'a [Mark],
 }
 
 impl<'a> Outline<'a> {
-    /// The whole statement.
-    pub fn of(card: &'a Card) -> Outline<'a>
-        ensures { outline_of result ≡ outline card.now.text card.now.kept }
+    /// All characters of some pieces.
+    pub fn of(pieces: PieceSlice<'a>) -> Outline<'a>
+        ensures { left_of result ≡ outline_of (slice_of pieces.entry) }
     {
         Outline {
-            text: card.text.as_slice(),
-            kept: card.kept.as_slice(),
+            text: pieces.text,
+            marks: pieces.marks,
         }
     }
 
     /// The next character, and what is left behind it. An apostrophe stands for each character of kept text.
     pub fn next(self) -> Option<(u8, Outline<'a>)>
-        ensures first { option_map (λ r. (r.0, outline_of r.1)) result ≡ uncons (outline_of self.entry) }
+        ensures first { option_map (λ r. (r.0, left_of r.1)) result ≡ uncons (left_of self.entry) }
         ensures shorter { IfSome result (λ r. length r.1.text.now < length self.entry.text.now) }
     {
-        let mut text = self.text;
-        let mut kept = self.kept;
-        while let (Some((byte, more)), Some((mark, marks))) = (
-            text.split_first(),
-            kept.split_first(),
-        ) {
-            let rest = Outline {
-                text: more,
-                kept: marks,
-            };
-            if *mark == 1 {
-                return Some((b'\'', rest));
-            }
-            if *byte != b' ' {
-                return Some((to_upper(*byte), rest));
-            }
-            text = more;
-            kept = marks;
+        let (byte, text) = self.text.split_first()?;
+        match self.marks.split_first() {
+            Some((Mark::Plain, marks)) => Some((*byte, Outline { text, marks })),
+            Some((_, marks)) => Some((b'\'', Outline { text, marks })),
+            None => Some((
+                *byte,
+                Outline {
+                    text,
+                    marks: self.marks,
+                },
+            )),
         }
-        None
     }
 }

@@ -3,15 +3,15 @@ ghost use Rattle.std.specs.Prelude.{◌≡◌, ◌<◌, [], ◌∷◌, true};
 ghost use Rattle.std.specs.Option.{option_map};
 ghost use Rattle.text_base.specs.Chars.{is_digit, is_name_byte};
 ghost use Rattle.tree77.specs.Kinds.{open_after};
-ghost use Rattle.tree77.specs.KindReading as reading;
-ghost use Rattle.scan77.specs.Views.{outline_of};
+ghost use Rattle.scan77.specs.KindReading as reading;
+ghost use Rattle.scan77.specs.Outline.{left_of};
 
 use crate::outline::Outline;
 use text_base::chars::{is_digit, is_name_byte, is_upper};
 
 /// What is left behind a character, if it stands here.
 fn behind_byte(at: Outline<'_>, byte: u8) -> Option<Outline<'_>>
-    ensures { option_map outline_of result ≡ reading.behind_text (byte ∷ []) (outline_of at.entry) }
+    ensures { option_map left_of result ≡ reading.behind_text (byte ∷ []) (left_of at.entry) }
 {
     match at.next() {
         Some((character, more)) => { if character == byte { Some(more) } else { None } }
@@ -21,7 +21,7 @@ fn behind_byte(at: Outline<'_>, byte: u8) -> Option<Outline<'_>>
 
 /// What is left behind a word, if it stands here.
 pub fn behind_text<'a>(at: Outline<'a>, word: &str) -> Option<Outline<'a>>
-    ensures { option_map outline_of result ≡ reading.behind_text word.now (outline_of at.entry) }
+    ensures { option_map left_of result ≡ reading.behind_text word.now (left_of at.entry) }
 {
     let mut rest = at;
     for byte in word.as_bytes() {
@@ -35,7 +35,7 @@ pub fn behind_text<'a>(at: Outline<'a>, word: &str) -> Option<Outline<'a>>
 
 /// What is left behind all first characters of a name.
 fn behind_name_bytes(at: Outline<'_>) -> Outline<'_>
-    ensures { outline_of result ≡ reading.behind_all is_name_byte (outline_of at.entry) }
+    ensures { left_of result ≡ reading.behind_all is_name_byte (left_of at.entry) }
 {
     let mut rest = at;
     while let Some((character, more)) = rest.next() {
@@ -49,7 +49,7 @@ fn behind_name_bytes(at: Outline<'_>) -> Outline<'_>
 
 /// What is left behind all first digits.
 fn behind_digits(at: Outline<'_>) -> Outline<'_>
-    ensures { outline_of result ≡ reading.behind_all is_digit (outline_of at.entry) }
+    ensures { left_of result ≡ reading.behind_all is_digit (left_of at.entry) }
 {
     let mut rest = at;
     while let Some((character, more)) = rest.next() {
@@ -63,7 +63,7 @@ fn behind_digits(at: Outline<'_>) -> Outline<'_>
 
 /// What is left behind the longest name, if one stands here.
 pub fn behind_name(at: Outline<'_>) -> Option<Outline<'_>>
-    ensures { option_map outline_of result ≡ reading.behind_name (outline_of at.entry) }
+    ensures { option_map left_of result ≡ reading.behind_name (left_of at.entry) }
 {
     let (character, more) = at.next()?;
     if is_upper(character) {
@@ -75,7 +75,7 @@ pub fn behind_name(at: Outline<'_>) -> Option<Outline<'_>>
 
 /// What is left behind the longest number, if one stands here.
 pub fn behind_number(at: Outline<'_>) -> Option<Outline<'_>>
-    ensures { option_map outline_of result ≡ reading.behind_number (outline_of at.entry) }
+    ensures { option_map left_of result ≡ reading.behind_number (left_of at.entry) }
 {
     let (character, more) = at.next()?;
     if is_digit(character) {
@@ -87,7 +87,7 @@ pub fn behind_number(at: Outline<'_>) -> Option<Outline<'_>>
 
 /// What is left behind a comma, if one stands here, and all where none does.
 pub fn behind_comma(at: Outline<'_>) -> Outline<'_>
-    ensures { outline_of result ≡ reading.behind_comma (outline_of at.entry) }
+    ensures { left_of result ≡ reading.behind_comma (left_of at.entry) }
 {
     match at.next() {
         Some((b',', more)) => more,
@@ -97,7 +97,7 @@ pub fn behind_comma(at: Outline<'_>) -> Outline<'_>
 
 /// What is left behind the parenthesis that closes.
 fn behind_close(at: Outline<'_>) -> Option<Outline<'_>>
-    ensures { option_map outline_of result ≡ reading.behind_close 0 (outline_of at.entry) }
+    ensures { option_map left_of result ≡ reading.behind_close 0 (left_of at.entry) }
 {
     let mut rest = at;
     let mut depth: usize = 0;
@@ -125,7 +125,7 @@ fn open_after(depth: usize, character: u8) -> usize
 
 /// What is left behind a group in parentheses, if one stands here.
 pub fn behind_group(at: Outline<'_>) -> Option<Outline<'_>>
-    ensures { option_map outline_of result ≡ reading.behind_group (outline_of at.entry) }
+    ensures { option_map left_of result ≡ reading.behind_group (left_of at.entry) }
 {
     match at.next()? {
         (b'(', more) => behind_close(more),
@@ -135,7 +135,7 @@ pub fn behind_group(at: Outline<'_>) -> Option<Outline<'_>>
 
 /// Whether a comma stands outside parentheses.
 pub fn has_comma(at: Outline<'_>) -> bool
-    ensures { result ≡ reading.has_comma 0 (outline_of at.entry) }
+    ensures { result ≡ reading.has_comma 0 (left_of at.entry) }
 {
     let mut rest = at;
     let mut depth: usize = 0;
@@ -151,14 +151,14 @@ pub fn has_comma(at: Outline<'_>) -> bool
 
 /// Whether this is the end of the statement.
 fn is_end(at: Outline<'_>) -> bool
-    ensures { result ≡ reading.is_end (outline_of at.entry) }
+    ensures { result ≡ reading.is_end (left_of at.entry) }
 {
     at.next().is_none()
 }
 
 /// Whether names with commas between them stand here, and last a parenthesis that closes.
 fn reads_names(at: Outline<'_>) -> bool
-    ensures { result ≡ reading.reads_names true (outline_of at.entry) }
+    ensures { result ≡ reading.reads_names true (left_of at.entry) }
 {
     let mut rest = at;
     let mut begin = true;
@@ -180,7 +180,7 @@ fn reads_names(at: Outline<'_>) -> bool
 
 /// Whether nothing or names stand here, and last a parenthesis that closes.
 fn reads_dummies(at: Outline<'_>) -> bool
-    ensures { result ≡ reading.reads_dummies (outline_of at.entry) }
+    ensures { result ≡ reading.reads_dummies (left_of at.entry) }
 {
     match at.next() {
         Some((b')', more)) => is_end(more),
@@ -190,7 +190,7 @@ fn reads_dummies(at: Outline<'_>) -> bool
 
 /// Whether nothing or names in parentheses stand here, and no more.
 pub fn reads_dummy_list(at: Outline<'_>) -> bool
-    ensures { result ≡ reading.reads_dummy_list (outline_of at.entry) }
+    ensures { result ≡ reading.reads_dummy_list (left_of at.entry) }
 {
     match at.next() {
         Some((b'(', more)) => reads_dummies(more),
@@ -200,7 +200,7 @@ pub fn reads_dummy_list(at: Outline<'_>) -> bool
 
 /// Whether an equals sign stands here.
 pub fn reads_equals(at: Outline<'_>) -> bool
-    ensures { result ≡ reading.reads_equals (outline_of at.entry) }
+    ensures { result ≡ reading.reads_equals (left_of at.entry) }
 {
     matches!(at.next(), Some((b'=', _)))
 }

@@ -3,14 +3,16 @@ ghost use Rattle.std.specs.Prelude.{◌≡◌};
 ghost use Rattle.scan77.specs.declared.scan_error.ScanError.TheVariants.{Memory};
 
 use std::alloc::AllocError;
-use text_base::Cause;
+use thiserror::Error;
 
-/// Why a statement isn't cut into tokens: it is refused, or memory is wanting.
-#[derive(Debug, Drop)]
+/// Why pieces aren't cut into tokens.
+#[derive(Debug, Drop, Error)]
 pub enum ScanError {
-    /// A character constant isn't closed, or a character begins no token. The cause is `NotAStatement`.
-    Refused(Cause),
-    /// Want of memory. Nothing is known of the statement.
+    /// A character constant isn't closed, or a character begins no token.
+    #[error("a character constant is not closed, or a character begins no token")]
+    NoToken,
+    /// Want of memory. Nothing is known of the pieces.
+    #[error("memory is wanting")]
     Memory,
 }
 

@@ -1,7 +1,7 @@
 // The keywords that statements begin with.
 ghost use Rattle.std.specs.Prelude.{◌≡◌};
 ghost use Rattle.tree77.specs.Kinds.{accepted, is_among};
-ghost use Rattle.scan77.specs.Words.{word_text};
+ghost use Rattle.scan77.specs.Word.{word_text, shown_word};
 
 /// A keyword of a statement. The last ones, from `Real` on, are those of statements that aren't accepted.
 #[derive(Clone, Copy, Debug, PartialEq, Eq)]
@@ -213,59 +213,37 @@ impl Word {
         }
     }
 
+    /// What a refusal of its statement shows.
+    pub fn shown(self) -> &'static str
+        ensures { result.now ≡ shown_word self }
+    {
+        match self {
+            Word::DoWhile => "WHILE",
+            Word::ImplicitNone => "NONE",
+            _ => self.text(),
+        }
+    }
+
     /// Whether it is the keyword of an accepted statement.
     pub fn is_accepted(self) -> bool
         ensures { result ≡ is_among accepted (word_text self) }
     {
         match self {
-            Word::Program => true,
-            Word::Subroutine => true,
-            Word::Function => true,
-            Word::BlockData => true,
-            Word::Implicit => true,
-            Word::Parameter => true,
-            Word::Integer => true,
-            Word::Logical => true,
-            Word::Character => true,
-            Word::Dimension => true,
-            Word::Common => true,
-            Word::Equivalence => true,
-            Word::External => true,
-            Word::Intrinsic => true,
-            Word::Save => true,
-            Word::Data => true,
-            Word::Format => true,
-            Word::GoTo => true,
-            Word::If => true,
-            Word::ElseIf => true,
-            Word::Else => true,
-            Word::EndIf => true,
-            Word::Do => true,
-            Word::Continue => true,
-            Word::Stop => true,
-            Word::End => true,
-            Word::Call => true,
-            Word::Return => true,
-            Word::Read => true,
-            Word::Write => true,
-            Word::Print => true,
-            Word::Open => true,
-            Word::Close => true,
-            Word::Rewind => true,
-            Word::Real => false,
-            Word::DoublePrecision => false,
-            Word::Complex => false,
-            Word::Entry => false,
-            Word::Pause => false,
-            Word::Inquire => false,
-            Word::Backspace => false,
-            Word::EndFile => false,
-            Word::Include => false,
-            Word::Namelist => false,
-            Word::Assign => false,
-            Word::DoWhile => false,
-            Word::EndDo => false,
-            Word::ImplicitNone => false,
+            Word::Real
+            | Word::DoublePrecision
+            | Word::Complex
+            | Word::Entry
+            | Word::Pause
+            | Word::Inquire
+            | Word::Backspace
+            | Word::EndFile
+            | Word::Include
+            | Word::Namelist
+            | Word::Assign
+            | Word::DoWhile
+            | Word::EndDo
+            | Word::ImplicitNone => false,
+            _ => true,
         }
     }
 }

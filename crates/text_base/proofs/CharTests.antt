@@ -1,5 +1,5 @@
 -- Tests of characters, and of texts by their characters.
-use Rattle.std.proofs.Common.{◌≡◌, ℕ, ◌==◌, Bool, true, ◌&&◌, ◌||◌, List, [], ◌∷◌, ◌++◌, refl, ap, arith}
+use Rattle.std.proofs.Common.{◌≡◌, ℕ, ◌==◌, Bool, true, ◌||◌, List, [], ◌∷◌, ◌++◌, refl, ap, arith}
 use Rattle.std.specs.Prelude.{nat_le}
 use Rattle.std.specs.List.{list_all}
 use Rattle.std.specs.Str.{bytes_eq}
@@ -11,8 +11,8 @@ use Rattle.text_base.specs.Chars.{is_upper, is_digit, is_name_byte}
 pub same_bytes : (a b : List ℕ) → bytes_eq a b ≡ true → a ≡ b
 same_bytes a b e = grind (arith, bytes_eq-Decides)
 
--- what holds of each character of two texts holds of each of both together
-pub all_append : (p : ℕ → Bool) (x y : List ℕ) → list_all p x ≡ true → list_all p y ≡ true → list_all p (x ++ y) ≡ true
+-- what holds of each character of two texts, or of each item of two lists, holds of each of both together
+pub all_append : {A : Type 0} (p : A → Bool) (x y : List A) → list_all p x ≡ true → list_all p y ≡ true → list_all p (x ++ y) ≡ true
 all_append p [] y e f = f
 all_append p (c ∷ x) y e f = let parts = and_parts (p c) (list_all p x) e in and_from (p c) (list_all p (x ++ y)) parts.0 (all_append p x y parts.1 f)
 

@@ -1,6 +1,7 @@
 -- Characters, as bytes.
 use Rattle.std.specs.Prelude.{ℕ, ◌-◌, Bool, map, if◌then◌else◌, not, ◌&&◌, ◌||◌, ◌==◌, nat_le, List, length, filter, slice_index}
 use Rattle.std.specs.List.{list_all}
+use Rattle.text_base.specs.declared.limits.TheConstants.{LONGEST_NAME}
 
 -- A to Z
 abbrev pub is_upper : ℕ → Bool
@@ -17,7 +18,7 @@ is_name_byte c = is_upper c || is_digit c || c == 95
 -- A symbolic name (X3.9 section 2.2, lengthened to 31 characters and with underscores). The empty text is no name,
 -- since it has no first letter.
 abbrev pub is_name : List ℕ → Bool
-is_name text = is_upper (slice_index text 0) && (list_all is_name_byte text && nat_le (length text) 31)
+is_name text = is_upper (slice_index text 0) && (list_all is_name_byte text && nat_le (length text) LONGEST_NAME)
 
 -- lower-case letters are read as upper case
 abbrev pub to_upper : ℕ → ℕ

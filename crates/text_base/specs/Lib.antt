@@ -12,7 +12,8 @@ pub mod Put
 pub mod Memory
 pub mod Refusing
 pub mod Trees
-pub mod Constants
+pub mod Remarks
+pub mod Names
 pub mod Values
 pub mod Operations
 pub mod Runs

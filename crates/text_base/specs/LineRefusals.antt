@@ -8,6 +8,7 @@ use Rattle.text_base.specs.Kept.{kept}
 use Rattle.text_base.specs.declared.refusal.Cause.{Cause}
 use Rattle.text_base.specs.declared.refusal.Cause.TheVariants.{FileTooLarge, LineTooLong, BadLabelField, ContinuationFirst, TooManyContinuations, BadCharacter}
 use Rattle.text_base.specs.declared.refusal.Refusal.{Refusal}
+use Rattle.text_base.specs.declared.limits.TheConstants.{LONGEST_LINE, MOST_CONTINUED, LARGEST_FILE, LARGEST_PROJECT}
 
 -- a cause and what it names
 abbrev pub Fault : Type 0
@@ -26,9 +27,9 @@ begun_by l = record { label = label_of l; text = []; continued = 0 }
 
 -- ---- one line
 
--- a line has at most 132 bytes; the length is named
+-- a longer line is refused; its length is named
 abbrev pub long_fault : List ℕ → Option Fault
-long_fault l = if nat_lt 132 (length l) then Some (LineTooLong, decimal (length l)) else None
+long_fault l = if nat_lt LONGEST_LINE (length l) then Some (LineTooLong, decimal (length l)) else None
 
 -- columns 1 to 5 of an initial line have digits and blanks alone; the first other column is named
 abbrev pub label_column : List ℕ → Option ℕ
@@ -70,7 +71,7 @@ initial_fault l = option_or (long_fault l) (option_or (label_fault l) (character
 -- A continuation line needs an initial line before it, and isn't the 100th of its statement; column 6 is named.
 abbrev pub place_fault : Option Begun → List ℕ → Option Fault
 place_fault None l = Some (ContinuationFirst, decimal 6)
-place_fault (Some b) l = if b.continued == 99 then Some (TooManyContinuations, decimal 6) else character_fault b l
+place_fault (Some b) l = if b.continued == MOST_CONTINUED then Some (TooManyContinuations, decimal 6) else character_fault b l
 
 -- what is refused of a continuation line
 abbrev pub continuation_fault : Option Begun → List ℕ → Option Fault
@@ -117,13 +118,13 @@ line_refusals file number b (l ∷ ls) = refused_at file number (line_fault b l)
 abbrev pub too_large : ℕ → ℕ → Refusal
 too_large file size = record { place = record { file = file; line = 0 }; cause = FileTooLarge; name = decimal size }
 
--- A file has at most 16 MiB (16777216 bytes). The lines of a larger one aren't read.
+-- A file has at most 16 MiB. The lines of a larger one aren't read.
 abbrev pub card_refusals : ℕ → List ℕ → List Refusal
-card_refusals file bytes = if nat_lt 16777216 (length bytes) then too_large file (length bytes) ∷ [] else line_refusals file 1 None (lines bytes)
+card_refusals file bytes = if nat_lt LARGEST_FILE (length bytes) then too_large file (length bytes) ∷ [] else line_refusals file 1 None (lines bytes)
 
--- the first file at which the sum of all sizes passes 64 MiB (67108864 bytes), after so many bytes
+-- the first file at which the sum of all sizes passes 64 MiB, after so many bytes
 abbrev pub passes_sum : ℕ → List ℕ → Bool
-passes_sum before bytes = not (nat_lt 67108864 before) && nat_lt 67108864 (before + length bytes)
+passes_sum before bytes = not (nat_lt LARGEST_PROJECT before) && nat_lt LARGEST_PROJECT (before + length bytes)
 
 -- what is refused of the lines of some files, of which the first has this number and so many bytes before it
 abbrev pub files_refusals : ℕ → ℕ → List (List ℕ) → List Refusal

@@ -3,6 +3,7 @@ use Rattle.std.specs.Prelude.{ℕ, ◌-◌, Bool, false, not, ◌&&◌, ◌||◌
 use Rattle.std.specs.List.{list_all, count_by}
 use Rattle.std.specs.Str.Parse.{digits_value}
 use Rattle.text_base.specs.Chars.{is_digit}
+use Rattle.text_base.specs.declared.limits.TheConstants.{LAST_COLUMN}
 
 -- a byte before the first of some lines
 abbrev pub with_first : ℕ → List (List ℕ) → List (List ℕ)
@@ -35,7 +36,7 @@ is_marked (c ∷ l) = is_mark c
 -- A comment has a mark in column 1, or nothing but blanks in columns 1 to 72 (X3.9 section 3.2.1). Every other line is
 -- one of a statement.
 abbrev pub is_comment : List ℕ → Bool
-is_comment l = is_marked l || is_blank (take 72 l)
+is_comment l = is_marked l || is_blank (take LAST_COLUMN l)
 
 -- the byte in column 6, which is a blank where the line is shorter
 abbrev pub column_6 : List ℕ → ℕ
@@ -56,11 +57,11 @@ label_of l = digits_value 10 (filter is_digit (label_field l))
 
 -- columns 7 to 72 of a line, which counts as padded with blanks to column 72
 abbrev pub statement_field : List ℕ → List ℕ
-statement_field l = let text = take 66 (drop 6 l) in text ++ replicate (66 - length text) 32
+statement_field l = let text = take (LAST_COLUMN - 6) (drop 6 l) in text ++ replicate ((LAST_COLUMN - 6) - length text) 32
 
 -- a line of a statement that has something other than a blank after column 72
 abbrev pub is_cut : List ℕ → Bool
-is_cut l = not (is_comment l) && not (is_blank (drop 72 l))
+is_cut l = not (is_comment l) && not (is_blank (drop LAST_COLUMN l))
 
 -- how many lines of a file are cut off at column 72
 abbrev pub cut_lines : List ℕ → ℕ

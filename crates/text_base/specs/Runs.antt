@@ -1,6 +1,7 @@
 -- What a computation from a budget of statements gives.
 use Rattle.std.specs.Prelude.{ℕ, zero, suc, Option, Some, None}
-use Rattle.text_base.specs.Values.{RunFault}
+use Rattle.text_base.specs.Values.{Value, RunFault}
+use Rattle.text_base.specs.Operations.{Computed, computes, faults}
 use Rattle.text_base.specs.declared.refusal.Place.{Place}
 use Rattle.text_base.specs.declared.stop_code.StopCode.{StopCode}
 
@@ -33,6 +34,11 @@ tick (suc n) w k = k n
 abbrev pub known : {W A : Type 0} → Place → RunFault → Option A → ℕ → W → Out W A
 known here kind None n w = over (fault here kind)
 known here kind (Some a) n w = gives n w a
+
+-- what an operation gives, or its fault
+abbrev pub computed : {W : Type 0} → Place → Computed → ℕ → W → Out W Value
+computed here (computes v) n w = gives n w v
+computed here (faults kind) n w = over (fault here kind)
 
 -- how a statement ends, as far as the list that it stands in may see it
 pub data How : Type 0 where

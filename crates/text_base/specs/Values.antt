@@ -29,3 +29,5 @@ pub data RunFault : Type 0 where
   Overflow : RunFault
   -- what is defined is an expression and no variable
   ExpressionDefined : RunFault
+  -- an expression has a part that has no meaning yet; no program that is converted has one
+  NoMeaning : RunFault

@@ -1,5 +1,5 @@
 // A list of bytes.
-ghost use Rattle.std.specs.Prelude.{◌≡◌, List, ℕ, [], ◌∷◌, ◌++◌, IfOk, OnOk, OnErr};
+ghost use Rattle.std.specs.Prelude.{◌≡◌, List, ℕ, [], ◌∷◌, ◌++◌, take, IfOk, OnOk, OnErr};
 
 use std::alloc::{AllocError, Global};
 use std::marker::Model;
@@ -58,6 +58,20 @@ impl Bytes {
     {
         self.items.extend_from_slice(bytes)?;
         Ok(())
+    }
+
+    /// Keeps the first `count` bytes. Where there are fewer, all stay.
+    pub fn truncate(&mut self, count: usize)
+        ensures { self.new ≡ take count self.old }
+    {
+        self.items.truncate(count);
+    }
+
+    /// Drops the bytes. What memory they took stays for the next.
+    pub fn clear(&mut self)
+        ensures { self.new ≡ [] }
+    {
+        self.items.clear();
     }
 
     /// Lends the bytes.

@@ -1,17 +1,17 @@
 // A symbolic name.
-ghost use Rattle.std.specs.Prelude.{◌≡◌, ◌∷◌, [], IfOk, IfSome, IsNone, IsTrue, ◌↔◌, false, Ok, None, Some};
+ghost use Rattle.std.specs.Prelude.{◌≡◌, IsTrue};
 ghost use Rattle.text_base.specs.Chars.{is_name};
 
-use crate::Bytes;
 use crate::chars::{are_name_bytes, is_upper};
-use std::alloc::{AllocError, Global};
+use crate::limits::LONGEST_NAME;
+use arrayvec::ArrayVec;
 use std::marker::Model;
 
 /// A symbolic name (X3.9 section 2.2, lengthened to 31 characters): 1 to 31 upper-case letters,
-/// digits and underscores, of which the first is a letter. Contracts see its characters.
+/// digits and underscores, of which the first is a letter. It holds them in place. Contracts see its characters.
 #[derive(Debug, Drop)]
 pub struct Name {
-    characters: Bytes,
+    characters: ArrayVec<u8, LONGEST_NAME>,
 }
 
 impl Model for Name {
@@ -20,9 +20,9 @@ impl Model for Name {
 
     ghost Value = { List ℕ };
 
-    ghost view = { λ name. name.characters };
+    ghost view = { λ name. name.characters.items };
 
-    ghost invariant = { λ name. IsTrue (is_name name.characters) };
+    ghost invariant = { λ name. IsTrue (is_name name.characters.items) };
 }
 
 impl Name {
@@ -33,28 +33,26 @@ impl Name {
         match characters {
             [] => false,
             [first, ..] => {
-                is_upper(*first) && are_name_bytes(characters) && characters.len() <= 31
+                is_upper(*first) && are_name_bytes(characters) && characters.len() <= LONGEST_NAME
             }
         }
     }
 
-    /// The name of these characters, which must be one.
-    pub fn from_slice(alloc: Global, characters: &[u8]) -> Result<Name, AllocError>
+    /// The name of these characters, which must be one. It takes no memory.
+    pub fn new(characters: &[u8]) -> Name
         requires { IsTrue (is_name characters.now) }
-        ensures { IfOk result (λ name. name ≡ characters.now) }
+        ensures { result ≡ characters.now }
     {
-        Ok(Name {
-            characters: Bytes::from_slice(alloc, characters)?,
-        })
+        let mut held = ArrayVec::new();
+        held.try_extend_from_slice(characters).unwrap();
+        Name { characters: held }
     }
 
-    /// A copy.
-    pub fn copy(&self, alloc: Global) -> Result<Name, AllocError>
-        ensures { IfOk result (λ name. name ≡ self.now) }
+    /// A copy. It takes no memory.
+    pub fn copy(&self) -> Name
+        ensures { result ≡ self.now }
     {
-        Ok(Name {
-            characters: Bytes::from_slice(alloc, self.characters.as_slice())?,
-        })
+        Name::new(self.as_slice())
     }
 
     /// Lends the characters.

@@ -3,18 +3,25 @@ ghost use Rattle.std.specs.Prelude.{◌≡◌, ◌≤◌, ◌++◌, List, ℕ, O
 ghost use Rattle.text_base.specs.Faults.{Rose};
 ghost use Rattle.text_base.specs.Files.{Files, with_file, SameBut, HasFile, LacksFile};
 
+use thiserror::Error;
+
 /// How a read fails.
-#[derive(Clone, Copy, Debug, PartialEq, Eq)]
+#[derive(Clone, Copy, Debug, PartialEq, Eq, Error)]
 pub enum ShelfRead {
+    #[error("there is no file of this name")]
     Missing,
+    #[error("the file could not be read")]
     Failed,
+    #[error("out of memory")]
     Memory,
 }
 
 /// How a write fails.
-#[derive(Clone, Copy, Debug, PartialEq, Eq)]
+#[derive(Clone, Copy, Debug, PartialEq, Eq, Error)]
 pub enum ShelfWrite {
+    #[error("the file could not be written")]
     Failed,
+    #[error("out of memory")]
     Memory,
 }
 

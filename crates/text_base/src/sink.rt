@@ -4,10 +4,14 @@ ghost use Rattle.std.specs.Io.KnownBytes.{append_known};
 ghost use Rattle.text_base.specs.Faults.{Rose};
 ghost use Rattle.text_base.specs.Put.{taken};
 
+use thiserror::Error;
+
 /// How a put fails.
-#[derive(Clone, Copy, Debug, PartialEq, Eq)]
+#[derive(Clone, Copy, Debug, PartialEq, Eq, Error)]
 pub enum SinkError {
+    #[error("the text could not be written")]
     Failed,
+    #[error("out of memory")]
     Memory,
 }
 

@@ -1,6 +1,6 @@
 -- The grammar of expressions (X3.9 section 6): a relation between lists of symbols and trees.
-use Rattle.std.specs.Prelude.{pos, ◌≡◌, ◌≢◌, ◌⊎◌, ℕ, zero, suc, IsTrue, Bool, true, false, List, [], ◌∷◌, ◌++◌}
-use Rattle.tree77.specs.Syntax.{UnaryOp, plus, minus, negation, BinaryOp, power, times, over, add, subtract, concat, less, less_equal, equal, not_equal, greater, greater_equal, conjunction, disjunction, equivalence, nonequivalence, Expr, int, name, call, substring, unary, binary, paren, Exprs, none, more, Bound, absent, at}
+use Rattle.std.specs.Prelude.{pos, ◌≡◌, ◌≢◌, ℕ, zero, suc, IsTrue, Bool, true, false, List, [], ◌∷◌, ◌++◌}
+use Rattle.text_base.specs.Trees.{UnaryOp, plus, minus, negation, BinaryOp, power, times, over, add, subtract, concat, less, less_equal, equal, not_equal, greater, greater_equal, conjunction, disjunction, equivalence, nonequivalence, Expr, int, name, call, substring, unary, binary, paren, Exprs, none, more, Bound, absent, at}
 
 -- what an expression is made of
 pub data Symbol : Type 0 where
@@ -117,24 +117,33 @@ Equivalence Primary = Chain is_equivalence (Disjunction Primary) (Disjunction Pr
 
 -- ---- primaries, over the expressions inside their parentheses
 
--- an expression, or an alternate return specifier, which is refused: 0 stands for it in the tree
-pub data Actual (Inner : Grammar) : List Symbol → Expr → Type 0 where
-  actual_expression : {t : List Symbol} {x : Expr} → Inner t x → Actual Inner t x
-  actual_alternate : {t : List Symbol} {x : Expr} → t ≡ alternate ∷ [] → x ≡ int (pos 0) → Actual Inner t x
+-- one or more of some sort, with commas between them
+pub data Listed (Part : Grammar) : List Symbol → Exprs → Type 0 where
+  listed_one : {t : List Symbol} {xs : Exprs} {a : Expr} → Part t a → xs ≡ more a none → Listed Part t xs
+  listed_more : {t u v : List Symbol} {xs others : Exprs} {a : Expr} → t ≡ u ++ comma ∷ v → Part u a → Listed Part v others → xs ≡ more a others → Listed Part t xs
 
--- one or more, with commas between them
-pub data Actuals (Inner : Grammar) : List Symbol → Exprs → Type 0 where
-  actuals_one : {t : List Symbol} {xs : Exprs} {a : Expr} → Actual Inner t a → xs ≡ more a none → Actuals Inner t xs
-  actuals_more : {t u v : List Symbol} {xs others : Exprs} {a : Expr} → t ≡ u ++ comma ∷ v → Actual Inner u a → Actuals Inner v others → xs ≡ more a others → Actuals Inner t xs
-
--- an array element or a function reference with one subscript or argument at least
-pub record IsElement (Inner : Grammar) (t : List Symbol) (x : Expr) : Type 0 where
+-- a name, and in parentheses one or more of some sort
+pub record IsCall (Part : Grammar) (t : List Symbol) (x : Expr) : Type 0 where
   pub of : List ℕ
   pub inside : List Symbol
-  pub actuals : Exprs
+  pub parts : Exprs
   pub whole : t ≡ operand (name of) ∷ opening ∷ (inside ++ closing ∷ [])
-  pub listed : Actuals Inner inside actuals
-  pub tree : x ≡ call of actuals
+  pub listed : Listed Part inside parts
+  pub tree : x ≡ call of parts
+
+-- an array element with its subscripts, which are expressions (X3.9 section 5.4)
+abbrev pub IsElement : Grammar → Grammar
+IsElement Inner = IsCall Inner
+
+-- an argument of a reference: an expression, or an alternate return specifier, which is refused: 0 stands for it in the tree
+pub data Argument (Inner : Grammar) : List Symbol → Expr → Type 0 where
+  argument_expression : {t : List Symbol} {x : Expr} → Inner t x → Argument Inner t x
+  argument_alternate : {t : List Symbol} {x : Expr} → t ≡ alternate ∷ [] → x ≡ int (pos 0) → Argument Inner t x
+
+-- A function reference with its arguments (X3.9 section 15.2). Its form doesn't tell it from an array element, unless an
+-- alternate return specifier is an argument.
+abbrev pub IsReference : Grammar → Grammar
+IsReference Inner = IsCall (Argument Inner)
 
 -- what a substring may be of (X3.9 section 5.7)
 pub data IsParent (Inner : Grammar) : List Symbol → Expr → Type 0 where
@@ -149,9 +158,10 @@ pub data IsBound (Inner : Grammar) : List Symbol → Bound → Type 0 where
 pub data Primary (Inner : Grammar) : List Symbol → Expr → Type 0 where
   -- a constant or a name
   primary_operand : {t : List Symbol} {x : Expr} → t ≡ operand x ∷ [] → Primary Inner t x
-  primary_element : {t : List Symbol} {x : Expr} → IsElement Inner t x → Primary Inner t x
+  -- an array element or a function reference
+  primary_reference : {t : List Symbol} {x : Expr} → IsReference Inner t x → Primary Inner t x
   -- a function reference without arguments
-  primary_reference : {t : List Symbol} {x : Expr} (of : List ℕ) → t ≡ operand (name of) ∷ opening ∷ closing ∷ [] → x ≡ call of none → Primary Inner t x
+  primary_empty : {t : List Symbol} {x : Expr} (of : List ℕ) → t ≡ operand (name of) ∷ opening ∷ closing ∷ [] → x ≡ call of none → Primary Inner t x
   primary_substring : {t u v w : List Symbol} {x a : Expr} {from to : Bound} → t ≡ u ++ opening ∷ (v ++ colon ∷ (w ++ closing ∷ [])) → IsParent Inner u a → IsBound Inner v from → IsBound Inner w to
       → x ≡ substring a from to → Primary Inner t x
   primary_paren : {t u : List Symbol} {x a : Expr} → t ≡ opening ∷ (u ++ closing ∷ []) → Inner u a → x ≡ paren a → Primary Inner t x

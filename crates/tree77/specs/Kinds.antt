@@ -1,12 +1,22 @@
 -- The kind of a statement: conditions on its characters, one for each step of the order in which they are looked at.
-use Rattle.std.specs.Prelude.{◌≡◌, ◌≢◌, ◌⊎◌, ℕ, ◌+◌, ◌-◌, ◌≤◌, Bool, true, false, not, ◌&&◌, ◌||◌, ◌==◌, List, [], ◌∷◌, ◌++◌, length, map, filter, codes, if◌then◌else◌}
+use Rattle.std.specs.Prelude.{◌≡◌, ◌≢◌, ◌⊎◌, ℕ, ◌+◌, ◌-◌, ◌≤◌, Bool, true, false, not, ◌&&◌, ◌||◌, ◌==◌, List, [], ◌∷◌, ◌++◌, length, map, filter, replicate, flat_map, codes, if◌then◌else◌}
 use Rattle.std.specs.List.{list_all, list_any, zip}
 use Rattle.std.specs.Str.{bytes_eq}
 use Rattle.text_base.specs.Chars.{is_upper, is_digit, is_name_byte, to_upper}
+use Rattle.text_base.specs.Pieces.{Piece, plain, whole, broken}
 
 -- The characters of a statement without blanks and with kept text aside: an apostrophe stands for each character of it.
 abbrev pub outline : List ℕ → List ℕ → List ℕ
 outline text marks = map (λ p. if p.1 == 1 then 39 else to_upper p.0) (filter (λ p. p.1 == 1 || not (p.0 == 32)) (zip text marks))
+
+-- The same of the pieces of a statement: a law says that both are equal.
+abbrev pub piece_outline : Piece → List ℕ
+piece_outline (plain c) = c ∷ []
+piece_outline (whole text) = replicate (length text) 39
+piece_outline (broken text) = replicate (length text) 39
+
+abbrev pub outline_of : List Piece → List ℕ
+outline_of pieces = flat_map piece_outline pieces
 
 pub data Kind : Type 0 where
   format : Kind
@@ -15,7 +25,9 @@ pub data Kind : Type 0 where
   -- the statement of an accepted keyword
   keyword : List ℕ → Kind
   -- the statement of a keyword that isn't accepted
-  unsupported : Kind
+  unsupported : List ℕ → Kind
+  -- a FUNCTION statement that begins with a type that isn't accepted
+  refused_function : List ℕ → Kind
   -- no statement
   nothing : Kind
 
@@ -104,15 +116,18 @@ pub data IsNames : List ℕ → Type 0 where
   one_name : {text : List ℕ} → is_word text ≡ true → IsNames text
   more_names : {text more : List ℕ} (name : List ℕ) → text ≡ name ++ 44 ∷ more → is_word name ≡ true → IsNames more → IsNames text
 
--- the types that a FUNCTION statement may begin with
-abbrev pub types : List (List ℕ)
-types = codes "INTEGER" ∷ codes "LOGICAL" ∷ codes "CHARACTER" ∷ []
+-- the types that a FUNCTION statement may begin with, and those with which it is refused
+abbrev pub accepted_types : List (List ℕ)
+accepted_types = codes "INTEGER" ∷ codes "LOGICAL" ∷ codes "CHARACTER" ∷ []
+
+abbrev pub refused_types : List (List ℕ)
+refused_types = codes "REAL" ∷ codes "DOUBLEPRECISION" ∷ codes "COMPLEX" ∷ []
 
 abbrev pub is_among : List (List ℕ) → List ℕ → Bool
 is_among words word = list_any (bytes_eq word) words
 
--- a type with its length, FUNCTION, a name, and at the end parentheses around nothing or names (X3.9 section 15.5.1)
-pub record IsTypedFunction (text : List ℕ) : Type 0 where
+-- one of some types with its length, FUNCTION, a name, and at the end parentheses around nothing or names (X3.9 section 15.5.1)
+pub record IsTypedFunction (types : List (List ℕ)) (text : List ℕ) : Type 0 where
   pub type : List ℕ
   pub size : List ℕ
   pub name : List ℕ
@@ -177,7 +192,8 @@ pub record IsOther (label : ℕ) (text : List ℕ) : Type 0 where
 -- nor is it a FUNCTION statement that begins with a type, or a DO WHILE with a label, so the longest keyword counts
 pub record IsPlainKeyword (label : ℕ) (text : List ℕ) : Type 0 where
   pub other : IsOther label text
-  pub no_function : IsTypedFunction text → ⊥
+  pub no_function : IsTypedFunction accepted_types text → ⊥
+  pub no_refused : IsTypedFunction refused_types text → ⊥
   pub no_while : IsLabelledWhile text → ⊥
 
 -- a statement with this label and these characters has this kind
@@ -186,11 +202,12 @@ pub data IsKind (label : ℕ) (text : List ℕ) (kind : Kind) : Type 0 where
   is_loop : (IsFormat label text → ⊥) → IsLoop text → kind ≡ loop → IsKind label text kind
   is_assignment : (IsFormat label text → ⊥) → (IsLoop text → ⊥) → IsAssignment text → kind ≡ assign → IsKind label text kind
   -- a FUNCTION statement that begins with a type
-  is_function : IsOther label text → IsTypedFunction text → kind ≡ keyword (codes "FUNCTION") → IsKind label text kind
+  is_function : IsOther label text → IsTypedFunction accepted_types text → kind ≡ keyword (codes "FUNCTION") → IsKind label text kind
+  is_refused_function : IsOther label text → (f : IsTypedFunction refused_types text) → kind ≡ refused_function f.type → IsKind label text kind
   -- a DO WHILE with a label
-  is_while : IsOther label text → (IsTypedFunction text → ⊥) → IsLabelledWhile text → kind ≡ unsupported → IsKind label text kind
+  is_while : IsOther label text → IsLabelledWhile text → kind ≡ unsupported (codes "DOWHILE") → IsKind label text kind
   -- the longest keyword is of an accepted statement, or of another one
   is_accepted : IsPlainKeyword label text → (word : List ℕ) → IsLongest text word → is_among accepted word ≡ true → kind ≡ keyword word → IsKind label text kind
-  is_refused : IsPlainKeyword label text → (word : List ℕ) → IsLongest text word → is_among accepted word ≡ false → kind ≡ unsupported → IsKind label text kind
+  is_refused : IsPlainKeyword label text → (word : List ℕ) → IsLongest text word → is_among accepted word ≡ false → kind ≡ unsupported word → IsKind label text kind
   -- no keyword begins it
   is_nothing : IsPlainKeyword label text → HasNoKeyword text → kind ≡ nothing → IsKind label text kind

@@ -3,7 +3,7 @@ use Rattle.std.specs.Prelude.{ℕ, zero, suc, ℤ, List, [], ◌∷◌, replicat
 use Rattle.text_base.specs.Trees.{Action}
 use Rattle.text_base.specs.Values.{Value, Held, undefined, held, integer_in, Undefined}
 use Rattle.text_base.specs.Runs.{Final, ended, fault, Out, gives, over, bind, close, tick, How, normal}
-use Rattle.text_base.specs.Evaluation.{Memory, Call}
+use Rattle.text_base.specs.Evaluation.{Storage, Call}
 use Rattle.text_base.specs.Evaluation as e
 use Rattle.text_base.specs.declared.refusal.Place.{Place}
 use Rattle.tree77.specs.Tree.{Stmt, simple, continue, Code, done, item, SourceUnit, SourceProgram}
@@ -23,7 +23,7 @@ write_at layout w None v = w
 write_at layout w (Some x) v = record w { numbers = slice_set w.numbers (numeric_place layout x.sequence x.offset) (held v) }
 
 -- the store as a unit sees it
-abbrev pub tagged : Layout → ℕ → Memory Store
+abbrev pub tagged : Layout → ℕ → Storage Store
 tagged layout unit = record {
   read = λ w x. read_at layout w (entity_named layout.entities unit x);
   write = λ w x v. write_at layout w (entity_named layout.entities unit x) v;
@@ -62,10 +62,10 @@ Go = ℕ → List Open → ℕ → Store → Out Store (Unit {0})
 abbrev pub proceed : Go → List Open → ℕ → Store → How → Out Store (Unit {0})
 proceed go loops n w normal = go 0 loops n w
 
-module _ (memory : Memory Store) (call : Call Store) where
+module _ (storage : Storage Store) (call : Call Store) where
   -- one line
   abbrev pub perform : Op → Place → Go → List Open → ℕ → Store → Out Store (Unit {0})
-  perform (act a) here go loops n w = bind (e.action memory call here a n w) (proceed go loops)
+  perform (act a) here go loops n w = bind (e.action storage call here a n w) (proceed go loops)
   perform pass here go loops n w = go 0 loops n w
 
   -- The lines from here on, of which the first may be passed over. The END of the unit is counted.

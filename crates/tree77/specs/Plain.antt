@@ -1,13 +1,8 @@
 -- The declared tree as the plain one.
 use Rattle.std.specs.Prelude.{List, [], ◌∷◌, map}
 use Rattle.text_base.specs.Trees as t
+use Rattle.expr_tree.specs.Plain.{expr_of}
 use Rattle.tree77.specs.Tree.{Stmt, simple, continue, Code, done, item, SourceUnit, SourceProgram}
-use Rattle.tree77.specs.declared.tree.UnaryOp.{UnaryOp}
-use Rattle.tree77.specs.declared.tree.UnaryOp.TheVariants as sign
-use Rattle.tree77.specs.declared.tree.BinaryOp.{BinaryOp}
-use Rattle.tree77.specs.declared.tree.BinaryOp.TheVariants as operator
-use Rattle.tree77.specs.declared.tree.Expr.{Expr, fold-Expr}
-use Rattle.tree77.specs.declared.tree.Expr.TheOpen.{Expr-F}
 use Rattle.tree77.specs.declared.tree.Stmt77.{Stmt77}
 use Rattle.tree77.specs.declared.tree.Stmt77.TheVariants.{Assign, Continue, Stop}
 use Rattle.tree77.specs.declared.tree.Body77.{Body77}
@@ -15,23 +10,6 @@ use Rattle.tree77.specs.declared.tree.Body77.TheVariants.{Simple}
 use Rattle.tree77.specs.declared.tree.Item77.{Item77}
 use Rattle.tree77.specs.declared.tree.Unit77.{Unit77}
 use Rattle.tree77.specs.declared.tree.Program77.{Program77}
-
-abbrev pub unary_of : UnaryOp → t.UnaryOp
-unary_of sign.Plus = t.plus
-unary_of sign.Minus = t.minus
-
-abbrev pub binary_of : BinaryOp → t.BinaryOp
-binary_of operator.Plus = t.add
-binary_of operator.Minus = t.subtract
-
-abbrev pub expr_step : Expr-F t.Expr → t.Expr
-expr_step (Expr-F.Int v) = t.int v
-expr_step (Expr-F.Name x) = t.name x
-expr_step (Expr-F.Unary op a) = t.unary (unary_of op) a
-expr_step (Expr-F.Binary op a b) = t.binary (binary_of op) a b
-
-unfoldable pub expr_of : Expr → t.Expr
-expr_of = fold-Expr t.Expr expr_step
 
 abbrev pub stmt_of_simple : Stmt77 → Stmt
 stmt_of_simple (Assign d e) = simple (t.assign (expr_of d) (expr_of e))

@@ -1,8 +1,11 @@
--- How statements are spelled: a relation on the characters of a card, blanks left out.
-use Rattle.std.specs.Prelude.{◌≡◌, ℕ, IsTrue, List, ◌∷◌, ◌++◌, codes}
+-- How statements are spelled: a relation on the pieces of a statement without a label. The kind is fixed first.
+use Rattle.std.specs.Prelude.{◌≡◌, ℕ, IsTrue, List, ◌∷◌, ◌++◌, map, codes}
 use Rattle.text_base.specs.Chars.{is_name}
-use Rattle.text_base.specs.Constants.{SpellsOperand, IsSign, IsOperator}
-use Rattle.text_base.specs.Trees.{UnaryOp, BinaryOp, Expr, name, unary, binary, Action, assign, stop}
+use Rattle.text_base.specs.Pieces.{Piece, plain}
+use Rattle.text_base.specs.Trees.{Expr, name, Action, assign, stop}
+use Rattle.tree77.specs.Kinds as kind
+use Rattle.tree77.specs.Kinds.{Kind, IsKind, outline_of}
+use Rattle.tree77.specs.Lexemes.{SpellsExpression}
 
 -- a statement by itself
 pub data Statement : Type 0 where
@@ -11,20 +14,18 @@ pub data Statement : Type 0 where
   continue : Statement
   end : Statement
 
--- An arithmetic expression: an operand, which may have a sign, or an expression, an operator and an operand, so that
--- operators group from the left and a sign belongs to the first operand (X3.9 section 6.1.2).
-pub data SpellsExpr : List ℕ → Expr → Type 0 where
-  spells_operand : {text : List ℕ} {e : Expr} → SpellsOperand text e → SpellsExpr text e
-  spells_signed : {text : List ℕ} {e : Expr} {c : ℕ} {u : List ℕ} {op : UnaryOp} {a : Expr} → text ≡ c ∷ u → IsSign c op → SpellsOperand u a → e ≡ unary op a → SpellsExpr text e
-  spells_sum : {text : List ℕ} {e : Expr} {t u : List ℕ} {c : ℕ} {op : BinaryOp} {a b : Expr} → text ≡ t ++ c ∷ u → IsOperator c op → SpellsExpr t a → SpellsOperand u b → e ≡ binary op a b → SpellsExpr text e
+-- the kind of a statement without a label
+abbrev pub HasKind : List Piece → Kind → Type 0
+HasKind pieces k = IsKind 0 (outline_of pieces) k
 
--- the characters spell the statement
-pub data Spells (text : List ℕ) (s : Statement) : Type 0 where
+-- the pieces spell the statement
+pub data SpellsStatement (pieces : List Piece) (s : Statement) : Type 0 where
   -- PROGRAM and a name (X3.9 section 14.1)
-  spells_program : {x : List ℕ} → text ≡ codes "PROGRAM" ++ x → IsTrue (is_name x) → s ≡ program x → Spells text s
+  spells_program : {x : List ℕ} → HasKind pieces (kind.keyword (codes "PROGRAM")) → pieces ≡ map plain (codes "PROGRAM" ++ x) → IsTrue (is_name x) → s ≡ program x → SpellsStatement pieces s
   -- a variable, an equals sign and an expression (X3.9 section 10.1)
-  spells_assign : {x u : List ℕ} {e : Expr} → text ≡ x ++ 61 ∷ u → IsTrue (is_name x) → SpellsExpr u e → s ≡ action (assign (name x) e) → Spells text s
+  spells_assign : {x : List ℕ} {value : List Piece} {e : Expr} → HasKind pieces kind.assign → pieces ≡ map plain x ++ plain 61 ∷ value → IsTrue (is_name x) → SpellsExpression value e → s ≡ action (assign (name x) e)
+      → SpellsStatement pieces s
   -- CONTINUE, STOP and END (X3.9 sections 11.11, 11.12 and 11.14)
-  spells_continue : text ≡ codes "CONTINUE" → s ≡ continue → Spells text s
-  spells_stop : text ≡ codes "STOP" → s ≡ action stop → Spells text s
-  spells_end : text ≡ codes "END" → s ≡ end → Spells text s
+  spells_continue : HasKind pieces (kind.keyword (codes "CONTINUE")) → pieces ≡ map plain (codes "CONTINUE") → s ≡ continue → SpellsStatement pieces s
+  spells_stop : HasKind pieces (kind.keyword (codes "STOP")) → pieces ≡ map plain (codes "STOP") → s ≡ action stop → SpellsStatement pieces s
+  spells_end : HasKind pieces (kind.keyword (codes "END")) → pieces ≡ map plain (codes "END") → s ≡ end → SpellsStatement pieces s

@@ -1,5 +1,5 @@
 -- Where an expression stops among the pieces of a statement.
-use Rattle.std.specs.Prelude.{◌≡◌, ℕ, Bool, true, false, ◌&&◌, ◌||◌, ◌==◌, List, [], ◌∷◌, if◌then◌else◌}
+use Rattle.std.specs.Prelude.{◌≡◌, ℕ, Bool, true, ◌&&◌, ◌||◌, ◌==◌, List, [], ◌∷◌, if◌then◌else◌}
 use Rattle.text_base.specs.Chars.{is_upper, is_digit}
 use Rattle.text_base.specs.Pieces.{Piece, plain, whole, broken}
 use Rattle.tree77.specs.Kinds.{open_after}

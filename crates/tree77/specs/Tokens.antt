@@ -1,10 +1,8 @@
 -- The tokens of a statement: its pieces cut at longest runs.
-use Rattle.std.specs.Prelude.{◌≡◌, ◌&&◌, ◌||◌, ℕ, Bool, true, false, not, ◌==◌, List, [], ◌∷◌, ◌++◌, map, Option, Some, None, if◌then◌else◌}
+use Rattle.std.specs.Prelude.{◌≡◌, ◌&&◌, ◌||◌, ℕ, Bool, true, false, not, ◌==◌, List, [], ◌∷◌, ◌++◌, map}
 use Rattle.std.specs.List.{list_all}
-use Rattle.std.specs.Option.{option_map}
 use Rattle.text_base.specs.Chars.{is_upper, is_digit, is_name_byte}
-use Rattle.text_base.specs.Kept.{is_format}
-use Rattle.text_base.specs.Pieces.{Piece, plain, whole, broken, IsPieces}
+use Rattle.text_base.specs.Pieces.{Piece, plain, whole, broken}
 
 pub data TokenKind : Type 0 where
   -- letters, digits and underscores, of which the first is a letter
@@ -52,12 +50,6 @@ pieces_by mark t = map plain t
 abbrev pub token_pieces : Token → List Piece
 token_pieces token = pieces_by token.kind token.text
 
--- the tokens of a statement with this label and these characters
-pub record AreTokens (label : ℕ) (characters : List ℕ) (tokens : List Token) : Type 0 where
-  pub pieces : List Piece
-  pub in_pieces : IsPieces (is_format label characters) characters pieces
-  pub in_tokens : IsCut pieces tokens
-
 -- ---- where there are none
 
 -- a character that begins no token
@@ -76,43 +68,3 @@ pub data IsStuck : List Piece → Type 0 where
   stuck_open : {pieces : List Piece} (t : List ℕ) (rest : List Piece) → pieces ≡ broken t ∷ rest → IsStuck pieces
   stuck_at : {pieces : List Piece} (c : ℕ) (rest : List Piece) → pieces ≡ plain c ∷ rest → begins_none c ≡ true → IsStuck pieces
   stuck_behind : {pieces rest : List Piece} (token : Token) → pieces ≡ token_pieces token ++ rest → MayPrecede token rest → IsStuck rest → IsStuck pieces
-
--- the pieces of a statement with this label and these characters have no tokens
-pub record HasNoTokens (label : ℕ) (characters : List ℕ) : Type 0 where
-  pub pieces : List Piece
-  pub in_pieces : IsPieces (is_format label characters) characters pieces
-  pub stuck : IsStuck pieces
-
--- ---- as a function
-
--- the run or the digits that are being read, as far as they have come
-pub data Open : Type 0 where
-  no_token : Open
-  open_run : List ℕ → Open
-  open_digits : List ℕ → Open
-
--- its token, before the others
-abbrev pub with_open : Open → Option (List Token) → Option (List Token)
-with_open no_token more = more
-with_open (open_run t) more = option_map (λ ts. record { kind = run; text = t } ∷ ts) more
-with_open (open_digits t) more = option_map (λ ts. record { kind = digits; text = t } ∷ ts) more
-
--- a character that begins a token, where `more` reads the pieces behind it
-abbrev pub begun_at : ℕ → (Open → Option (List Token)) → Option (List Token)
-begun_at c more =
-    if is_upper c then more (open_run (c ∷ []))
-    else (if is_digit c then more (open_digits (c ∷ []))
-    else (if is_mark c then option_map (λ ts. record { kind = mark; text = c ∷ [] } ∷ ts) (more no_token) else None))
-
--- a character after a token that is being read
-abbrev pub read_next : Open → ℕ → (Open → Option (List Token)) → Option (List Token)
-read_next no_token c more = begun_at c more
-read_next (open_run t) c more = if is_name_byte c then more (open_run (t ++ c ∷ [])) else with_open (open_run t) (begun_at c more)
-read_next (open_digits t) c more = if is_digit c then more (open_digits (t ++ c ∷ [])) else with_open (open_digits t) (begun_at c more)
-
--- the tokens of some pieces, if they can be cut
-abbrev pub read_tokens : List Piece → Open → Option (List Token)
-read_tokens [] o = with_open o (Some [])
-read_tokens (plain c ∷ ps) o = read_next o c (read_tokens ps)
-read_tokens (whole t ∷ ps) o = with_open o (option_map (λ ts. record { kind = kept; text = t } ∷ ts) (read_tokens ps no_token))
-read_tokens (broken t ∷ ps) o = None

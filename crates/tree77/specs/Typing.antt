@@ -2,20 +2,10 @@
 use Rattle.std.specs.Prelude.{ℕ, Bool, not, ◌&&◌, nat_le, List, [], ◌∷◌, ◌++◌, filter, slice_index}
 use Rattle.std.specs.List.{list_all}
 use Rattle.std.specs.Str.{bytes_eq}
-use Rattle.text_base.specs.Trees.{Expr, int, name, unary, binary, Action, assign, stop}
+use Rattle.text_base.specs.Names.{action_names}
 use Rattle.tree77.specs.Tree.{Stmt, simple, continue, Code, done, item, SourceUnit}
 
--- the names of an expression, a statement and a list, in the order of the text
-abbrev pub expr_names : Expr → List (List ℕ)
-expr_names (int v) = []
-expr_names (name x) = x ∷ []
-expr_names (unary op a) = expr_names a
-expr_names (binary op a b) = expr_names a ++ expr_names b
-
-abbrev pub action_names : Action → List (List ℕ)
-action_names (assign d e) = expr_names d ++ expr_names e
-action_names stop = []
-
+-- the names of a statement and of a list, in the order of the text
 abbrev pub stmt_names : Stmt → List (List ℕ)
 stmt_names (simple a) = action_names a
 stmt_names continue = []

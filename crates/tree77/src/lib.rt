@@ -1,12 +1,7 @@
 //! FORTRAN 77 programs as trees, with the definitions of their spelling, their storage and their meaning.
 #![tactic(auto)]
 
-mod laws;
-pub mod syntax;
 mod tree;
 
-pub use laws::{one_cut, one_format, one_kind, one_program, reading_is_spelling};
-pub use tree::{
-    BinaryOp, Body77, EndIf, Expr, Item77, Items77, Program77, Stmt77, UnaryOp, Unit77, UnitKind,
-    Units77,
-};
+pub use expr_tree::{BinaryOp, Expr, Exprs, UnaryOp};
+pub use tree::{Body77, EndIf, Item77, Items77, Program77, Stmt77, Unit77, UnitKind, Units77};

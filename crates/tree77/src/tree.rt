@@ -1,29 +1,7 @@
 // The tree of a FORTRAN 77 program.
-use sqlite_items::{Boxed, Items};
+use expr_tree::Expr;
+use sqlite_items::Items;
 use text_base::{Name, Place};
-
-/// A sign (X3.9 section 6.1).
-#[derive(Clone, Copy, Debug, PartialEq, Eq)]
-pub enum UnaryOp {
-    Plus,
-    Minus,
-}
-
-/// An operator between two operands (X3.9 section 6.1).
-#[derive(Clone, Copy, Debug, PartialEq, Eq)]
-pub enum BinaryOp {
-    Plus,
-    Minus,
-}
-
-/// An expression (X3.9 section 6): an integer constant, a variable, a signed operand, a sum or a difference.
-#[derive(Debug, Drop)]
-pub enum Expr {
-    Int(i32),
-    Name(Name),
-    Unary(UnaryOp, Boxed<Expr>),
-    Binary(BinaryOp, Boxed<Expr>, Boxed<Expr>),
-}
 
 /// A simple statement: an assignment has the variable and the expression (X3.9 section 10.1); CONTINUE
 /// (X3.9 section 11.11) and STOP (X3.9 section 11.12) have nothing.

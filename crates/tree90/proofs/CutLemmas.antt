@@ -1,27 +1,19 @@
 -- The lines of a text that is written.
 use Rattle.std.proofs.Common.{◌≡◌, ℕ, zero, suc, ◌==◌, Bool, true, false, not, ◌&&◌, List, [], ◌∷◌, ◌++◌, map, refl, ap, ◌∙◌, append_assoc, arith}
 use Rattle.std.specs.Prelude.{min, ◌*◌, replicate, drop, if◌then◌else◌}
-use Rattle.std.proofs.lemmas.Bool.{eqb-true, not-true, and_parts}
-use Rattle.text_base.specs.Lines.{with_first, cut, is_blank}
+use Rattle.std.proofs.lemmas.Bool.{eqb-true, and_parts}
+use Rattle.text_base.specs.Lines.{cut, is_blank}
+use Rattle.text_base.specs.Remarks.{Remark, remark_text, remarks_text, is_writable_remark, are_writable_remarks}
 use Rattle.text_base.specs.Chars.{is_name_byte}
 use Rattle.text_base.proofs.CharTests.{all_append}
+use Rattle.text_base.proofs.RemarkLines.{cut_line}
 use Rattle.tree90.specs.FreeText.{tokens, FreeLine, comment_line, statement_line, starts_comment, line_of, comment_lines}
-use Rattle.tree90.specs.Printed.{line, remark_text, remarks_text}
-use Rattle.tree90.specs.Proper.{is_writable_remark, are_writable_remarks}
-use Rattle.tree90.specs.Tree.{Remark}
+use Rattle.tree90.specs.Printed.{line}
 use Rattle.tree90.proofs.TokenLemmas.{has_no_break, name_byte}
 
 -- the lines of a text
 abbrev pub lines_of : List ℕ → List FreeLine
 lines_of text = map line_of (cut text)
-
--- what has no LF is a line up to the next
-cut_line : (l more : List ℕ) → has_no_break l ≡ true → cut (l ++ 10 ∷ more) ≡ l ∷ cut more
-cut_line [] more e = refl
-cut_line (c ∷ l) more e =
-    let parts = and_parts (not (c == 10)) (has_no_break l) e in
-    ap (λ b. if b then [] ∷ cut (l ++ 10 ∷ more) else with_first c (cut (l ++ 10 ∷ more))) (not-true (c == 10) parts.0)
-    ∙ ap (with_first c) (cut_line l more parts.1)
 
 -- ---- lines of statements
 

@@ -1,7 +1,8 @@
 -- A text has at most one reading.
 use Rattle.std.proofs.Common.{◌≡◌, ℕ, List, [], ◌∷◌, ◌++◌, map, refl, sym, ◌∙◌, subst}
 use Rattle.text_base.specs.Lines.{cut}
-use Rattle.tree90.specs.Tree.{Remark, Code, done, item, Declared, FreeUnit, FreeProgram}
+use Rattle.text_base.specs.Remarks.{Remark}
+use Rattle.tree90.specs.Tree.{Code, done, item, Declared, FreeUnit, FreeProgram}
 use Rattle.tree90.specs.FreeText.{FreeStatement, header, implicit_none, save, declaration, executable, end, SpellsFree, FreeLine, statement_line, line_of, comment_lines, SpellsNext, SpellsParts, SpellsCode, SpellsUnit, SpellsUnits, SpellsText}
 use Rattle.tree90.proofs.TokenReading.{free_unique}
 

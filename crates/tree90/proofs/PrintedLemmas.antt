@@ -7,10 +7,11 @@ use Rattle.std.proofs.lemmas.Bool.{and_parts}
 use Rattle.text_base.specs.Chars.{is_name_byte, is_name}
 use Rattle.text_base.specs.Trees.{Expr, Action, name, assign}
 use Rattle.text_base.proofs.CharTests.{all_append}
-use Rattle.tree90.specs.Tree.{Remark, simple, Code, done, item, Declared, integer_object, FreeUnit, FreeProgram}
+use Rattle.text_base.specs.Remarks.{Remark, remarks_text, are_writable_remarks}
+use Rattle.tree90.specs.Tree.{simple, Code, done, item, Declared, integer_object, FreeUnit, FreeProgram}
 use Rattle.tree90.specs.FreeText.{tokens, FreeStatement, header, implicit_none, save, declaration, executable, end, SpellsFree, free_header, free_implicit, free_save, free_integer, free_assign, free_stop, free_end, FreeLine, comment_lines, SpellsNext, SpellsParts, SpellsCode, SpellsUnit, SpellsUnits, SpellsText}
-use Rattle.tree90.specs.Printed.{line, remarks_text, expr_text, action_text, code_text, declared_text, unit_text, printed}
-use Rattle.tree90.specs.Proper.{IsWritableAction, writable_assign, writable_stop, are_writable_remarks, IsWritableCode, declared_name, IsWritableUnit, AreWritableUnits, IsWritable}
+use Rattle.tree90.specs.Printed.{line, expr_text, action_text, code_text, declared_text, unit_text, printed}
+use Rattle.tree90.specs.Proper.{IsWritableAction, writable_assign, writable_stop, IsWritableCode, declared_name, IsWritableUnit, AreWritableUnits, IsWritable}
 use Rattle.tree90.proofs.TokenLemmas.{has_no_break, name_bytes_unbroken, NameWord, name_word, name_token, word_token, SumTokens, sum_tokens}
 use Rattle.tree90.proofs.CutLemmas.{lines_of, begins_word, line_step, comments_step}
 

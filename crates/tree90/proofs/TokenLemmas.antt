@@ -9,12 +9,12 @@ use Rattle.std.proofs.lemmas.Fmt.{decimal_is_IsNumeral}
 use Rattle.std.proofs.lemmas.List.{append-nil}
 use Rattle.std.proofs.lemmas.Str.Parse.{digit_from_value}
 use Rattle.text_base.specs.Chars.{is_upper, is_digit, is_name_byte, is_name, to_upper}
-use Rattle.text_base.specs.Constants.{SpellsOperand, spells_constant, spells_variable, IsSign, is_plus, is_minus, IsOperator, is_add, is_subtract}
-use Rattle.text_base.specs.Trees.{UnaryOp, plus, minus, BinaryOp, add, subtract, Expr, unary, binary}
+use Rattle.tree90.specs.Constants.{SpellsOperand, spells_constant, spells_variable, IsSign, is_plus, is_minus, IsOperator, is_add, is_subtract}
+use Rattle.text_base.specs.Trees.{UnaryOp, plus, minus, negation, BinaryOp, power, times, over, add, subtract, concat, less, less_equal, equal, not_equal, greater, greater_equal, conjunction, disjunction, equivalence, nonequivalence, Expr, unary, binary}
 use Rattle.text_base.proofs.CharTests.{all_append, digits_are_name_bytes}
 use Rattle.tree90.specs.FreeText.{is_word_byte, joins, attach, tokens, SpellsSum, sum_operand, sum_signed, sum_more}
 use Rattle.tree90.specs.Printed.{sign_text, operator_text, expr_text}
-use Rattle.tree90.specs.Proper.{IsOperand, operand_int, operand_name, IsSum, only_operand, signed_operand, sum_of}
+use Rattle.tree90.specs.Proper.{IsOperand, operand_int, operand_name, is_sign, is_additive, IsSum, only_operand, signed_operand, sum_of}
 
 -- ---- tests
 
@@ -207,10 +207,11 @@ minus_token : (rest : List ℕ) → tokens (45 ∷ rest) ≡ (45 ∷ []) ∷ tok
 minus_token [] = refl
 minus_token (d ∷ rest) = refl
 
--- each sign is one token
-sign_byte : (op : UnaryOp) → SignByte op
-sign_byte plus = record { byte = 43; is = is_plus refl; text = refl; unbroken = refl; read = plus_token }
-sign_byte minus = record { byte = 45; is = is_minus refl; text = refl; unbroken = refl; read = minus_token }
+-- a sign is one token
+sign_byte : (op : UnaryOp) → is_sign op ≡ true → SignByte op
+sign_byte plus e = record { byte = 43; is = is_plus refl; text = refl; unbroken = refl; read = plus_token }
+sign_byte minus e = record { byte = 45; is = is_minus refl; text = refl; unbroken = refl; read = minus_token }
+sign_byte negation e = absurd cc
 
 -- the byte of an operator
 record OperatorByte (op : BinaryOp) : Type 0 where
@@ -220,10 +221,24 @@ record OperatorByte (op : BinaryOp) : Type 0 where
   unbroken : not (byte == 10) ≡ true
   read : (rest : List ℕ) → tokens (byte ∷ rest) ≡ (byte ∷ []) ∷ tokens rest
 
--- each operator is one token
-operator_byte : (op : BinaryOp) → OperatorByte op
-operator_byte add = record { byte = 43; is = is_add refl; text = refl; unbroken = refl; read = plus_token }
-operator_byte subtract = record { byte = 45; is = is_subtract refl; text = refl; unbroken = refl; read = minus_token }
+-- an operator of sums is one token
+operator_byte : (op : BinaryOp) → is_additive op ≡ true → OperatorByte op
+operator_byte add e = record { byte = 43; is = is_add refl; text = refl; unbroken = refl; read = plus_token }
+operator_byte subtract e = record { byte = 45; is = is_subtract refl; text = refl; unbroken = refl; read = minus_token }
+operator_byte power e = absurd cc
+operator_byte times e = absurd cc
+operator_byte over e = absurd cc
+operator_byte concat e = absurd cc
+operator_byte less e = absurd cc
+operator_byte less_equal e = absurd cc
+operator_byte equal e = absurd cc
+operator_byte not_equal e = absurd cc
+operator_byte greater e = absurd cc
+operator_byte greater_equal e = absurd cc
+operator_byte conjunction e = absurd cc
+operator_byte disjunction e = absurd cc
+operator_byte equivalence e = absurd cc
+operator_byte nonequivalence e = absurd cc
 
 -- the tokens of an operand
 operand_tokens : (e : Expr) → IsOperand e → SumTokens e
@@ -237,10 +252,10 @@ operand_tokens e operand =
     }
 
 -- the tokens of a signed operand
-signed_tokens : (op : UnaryOp) (a : Expr) → IsOperand a → SumTokens (unary op a)
-signed_tokens op a operand =
+signed_tokens : (op : UnaryOp) (a : Expr) → is_sign op ≡ true → IsOperand a → SumTokens (unary op a)
+signed_tokens op a sign operand =
     let o = operand_word a operand in
-    let s = sign_byte op in
+    let s = sign_byte op sign in
     record {
       list = (s.byte ∷ []) ∷ expr_text a ∷ [];
       spelled = sum_signed refl s.is o.spelled refl;
@@ -252,10 +267,10 @@ signed_tokens op a operand =
     }
 
 -- the tokens of an operand after a sum
-more_tokens : (op : BinaryOp) (a b : Expr) → SumTokens a → IsOperand b → SumTokens (binary op a b)
-more_tokens op a b left operand =
+more_tokens : (op : BinaryOp) (a b : Expr) → is_additive op ≡ true → SumTokens a → IsOperand b → SumTokens (binary op a b)
+more_tokens op a b additive left operand =
     let o = operand_word b operand in
-    let q = operator_byte op in
+    let q = operator_byte op additive in
     let behind : List ℕ = 32 ∷ q.byte ∷ 32 ∷ expr_text b in
     let whole : expr_text (binary op a b) ≡ expr_text a ++ behind =
     between (expr_text a) (operator_text op) (expr_text b) ∙ ap (λ (t : List ℕ). expr_text a ++ (32 ∷ (t ++ (32 ∷ expr_text b)))) q.text in
@@ -280,5 +295,5 @@ more_tokens op a b left operand =
 -- the tokens of a sum
 pub sum_tokens : (e : Expr) → IsSum e → SumTokens e
 sum_tokens e (only_operand operand) = operand_tokens e operand
-sum_tokens e (signed_operand {op} {a} operand) = signed_tokens op a operand
-sum_tokens e (sum_of {op} {a} {b} left operand) = more_tokens op a b (sum_tokens a left) operand
+sum_tokens e (signed_operand {op} {a} sign operand) = signed_tokens op a sign operand
+sum_tokens e (sum_of {op} {a} {b} additive left operand) = more_tokens op a b additive (sum_tokens a left) operand

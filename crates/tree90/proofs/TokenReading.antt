@@ -5,7 +5,7 @@ use Rattle.std.specs.List.{list_all}
 use Rattle.std.specs.Str.Parse.{digits_value}
 use Rattle.std.proofs.lemmas.Bool.{and_parts}
 use Rattle.text_base.specs.Chars.{is_upper, is_digit, is_name_byte, is_name}
-use Rattle.text_base.specs.Constants.{SpellsOperand, spells_constant, spells_variable, IsSign, is_plus, is_minus, IsOperator, is_add, is_subtract}
+use Rattle.tree90.specs.Constants.{SpellsOperand, spells_constant, spells_variable, IsSign, is_plus, is_minus, IsOperator, is_add, is_subtract}
 use Rattle.text_base.specs.Trees.{UnaryOp, plus, minus, BinaryOp, add, subtract, Expr, int, name, unary, binary, assign, stop}
 use Rattle.text_base.proofs.CharTests.{digit_is_no_letter}
 use Rattle.tree90.specs.Tree.{simple, integer_object}
@@ -33,19 +33,29 @@ operand_unique w v a b e (spells_variable named is) (spells_variable other was) 
 
 -- ---- sums
 
+-- the sign that a character is, if it is one
+abbrev sign_of : ℕ → UnaryOp
+sign_of c = if c == 43 then plus else minus
+
+sign_is : {c : ℕ} {op : UnaryOp} → IsSign c op → op ≡ sign_of c
+sign_is (is_plus e) = ap sign_of (sym e)
+sign_is (is_minus e) = ap sign_of (sym e)
+
+-- the operator of sums that a character is, if it is one
+abbrev operator_of : ℕ → BinaryOp
+operator_of c = if c == 43 then add else subtract
+
+operator_is : {c : ℕ} {op : BinaryOp} → IsOperator c op → op ≡ operator_of c
+operator_is (is_add e) = ap operator_of (sym e)
+operator_is (is_subtract e) = ap operator_of (sym e)
+
 -- a character is one sign at most
 sign_unique : (c d : ℕ) (o p : UnaryOp) → c ≡ d → IsSign c o → IsSign d p → o ≡ p
-sign_unique c d plus plus e (is_plus a) (is_plus b) = refl
-sign_unique c d plus minus e (is_plus a) (is_minus b) = absurd (omega arith)
-sign_unique c d minus plus e (is_minus a) (is_plus b) = absurd (omega arith)
-sign_unique c d minus minus e (is_minus a) (is_minus b) = refl
+sign_unique c d o p e a b = sign_is a ∙ ap sign_of e ∙ sym (sign_is b)
 
 -- a character is one operator at most
 operator_unique : (c d : ℕ) (o p : BinaryOp) → c ≡ d → IsOperator c o → IsOperator d p → o ≡ p
-operator_unique c d add add e (is_add a) (is_add b) = refl
-operator_unique c d add subtract e (is_add a) (is_subtract b) = absurd (omega arith)
-operator_unique c d subtract add e (is_subtract a) (is_add b) = absurd (omega arith)
-operator_unique c d subtract subtract e (is_subtract a) (is_subtract b) = refl
+operator_unique c d o p e a b = operator_is a ∙ ap operator_of e ∙ sym (operator_is b)
 
 -- a sum has tokens
 sum_some : (ts : List (List ℕ)) (e : Expr) → SpellsSum ts e → 0 < length ts

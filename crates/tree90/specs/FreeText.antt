@@ -4,9 +4,11 @@ use Rattle.std.specs.Prelude.{◌≡◌, ℕ, Bool, true, false, ◌&&◌, ◌||
 use Rattle.std.specs.List.{list_all}
 use Rattle.text_base.specs.Lines.{cut, is_blank}
 use Rattle.text_base.specs.Chars.{is_upper, is_digit, is_name, to_upper}
-use Rattle.text_base.specs.Constants.{SpellsOperand, IsSign, IsOperator}
+use Rattle.tree90.specs.Constants.{SpellsOperand, IsSign, IsOperator}
 use Rattle.text_base.specs.Trees.{UnaryOp, BinaryOp, Expr, name, unary, binary, assign, stop}
-use Rattle.tree90.specs.Tree.{Remark, Stmt, simple, Code, done, item, Declared, integer_object, FreeUnit, FreeProgram}
+use Rattle.text_base.specs.Remarks.{Remark}
+use Rattle.text_base.specs.declared.limits.TheConstants.{LONGEST_WRITTEN}
+use Rattle.tree90.specs.Tree.{Stmt, simple, Code, done, item, Declared, integer_object, FreeUnit, FreeProgram}
 
 -- ---- lexical tokens
 
@@ -107,7 +109,7 @@ abbrev pub SpellsUnits : List FreeLine → List FreeUnit → List Remark → Typ
 SpellsUnits ls [] tail = ls ≡ comment_lines tail
 SpellsUnits ls (u ∷ us) tail = (rest : List FreeLine) × SpellsUnit ls u rest × SpellsUnits rest us tail
 
--- the text is that of the program, and no line has more than 132 characters
+-- the text is that of the program, and no line is too long
 pub record SpellsText (text : List ℕ) (p : FreeProgram) : Type 0 where
-  pub short : IsTrue (list_all (λ l. nat_le (length l) 132) (cut text))
+  pub short : IsTrue (list_all (λ l. nat_le (length l) LONGEST_WRITTEN) (cut text))
   pub spelled : SpellsUnits (map line_of (cut text)) p.units p.tail

@@ -4,7 +4,7 @@ use Rattle.std.specs.Option.{option_and_then}
 use Rattle.std.specs.Str.{bytes_eq}
 use Rattle.text_base.specs.Values.{Value, integer, Undefined}
 use Rattle.text_base.specs.Runs.{Final, ended, fault, Out, gives, over, bind, close, tick, How, normal}
-use Rattle.text_base.specs.Evaluation.{Memory, Call}
+use Rattle.text_base.specs.Evaluation.{Storage, Call}
 use Rattle.text_base.specs.Evaluation as e
 use Rattle.text_base.specs.declared.refusal.Place.{Place}
 use Rattle.tree90.specs.Tree.{Stmt, simple, Code, done, item, Declared, integer_object, FreeUnit, FreeProgram}
@@ -67,7 +67,7 @@ abbrev pub scalar : Value → Cells
 scalar (integer v) = integers (v ∷ [])
 
 -- the objects as a unit sees them: no value is undefined
-abbrev pub untagged : List ℕ → Memory Objects
+abbrev pub untagged : List ℕ → Storage Objects
 untagged home = record {
   read = λ w x. Some (integer (unwrap_or (object_integer w home x 1) (pos 0)));
   write = λ w x v. with_cells w home x (scalar v);
@@ -80,9 +80,9 @@ nowhere = record { file = 0; line = 0 }
 abbrev pub next : How → (ℕ → Objects → Out Objects How) → ℕ → Objects → Out Objects How
 next normal k n w = k n w
 
-module _ (memory : Memory Objects) (call : Call Objects) where
+module _ (storage : Storage Objects) (call : Call Objects) where
   abbrev pub stmt : Stmt → ℕ → Objects → Out Objects How
-  stmt (simple a) n w = e.action memory call nowhere a n w
+  stmt (simple a) n w = e.action storage call nowhere a n w
 
   abbrev pub body : Code → ℕ → Objects → Out Objects How
   body done n w = gives n w normal

@@ -1,35 +1,72 @@
 -- The one text of a Fortran 90 program (ISO/IEC 1539:1991 section 3.3). A program that can be written has no line of
 -- more than 132 characters, so none is continued.
-use Rattle.std.specs.Prelude.{ℕ, ◌*◌, List, [], ◌∷◌, ◌++◌, min, replicate, codes, flat_map, if◌then◌else◌}
+use Rattle.std.specs.Prelude.{ℕ, ◌*◌, Bool, true, false, ◌==◌, List, [], ◌∷◌, ◌++◌, min, replicate, codes, flat_map, if◌then◌else◌}
 use Rattle.std.specs.Fmt.{signed_decimal}
-use Rattle.text_base.specs.Trees.{UnaryOp, plus, minus, BinaryOp, add, subtract, Expr, int, name, unary, binary, Action, assign, stop}
-use Rattle.tree90.specs.Tree.{Remark, Stmt, simple, Code, done, item, Declared, integer_object, FreeUnit, FreeProgram}
+use Rattle.text_base.specs.Trees.{UnaryOp, plus, minus, negation, BinaryOp, power, times, over, add, subtract, concat, less, less_equal, equal, not_equal, greater, greater_equal, conjunction, disjunction, equivalence, nonequivalence, Expr, int, bool, text, name, call, substring, unary, binary, paren, Exprs, none, more, Bound, absent, at, Action, assign, stop}
+use Rattle.text_base.specs.Remarks.{remarks_text}
+use Rattle.tree90.specs.Tree.{Stmt, simple, Code, done, item, Declared, integer_object, FreeUnit, FreeProgram}
 
 -- a line has two blanks for each level, at most 60, and ends with LF
 abbrev pub line : ℕ → List ℕ → List ℕ
-line level text = replicate (min (2 * level) 60) 32 ++ text ++ 10 ∷ []
+line level words = replicate (min (2 * level) 60) 32 ++ words ++ 10 ∷ []
 
--- a marked comment is `!` and its text, a blank one its text
-abbrev pub remark_text : Remark → List ℕ
-remark_text r = (if r.marked then 33 ∷ r.text else r.text) ++ 10 ∷ []
-
-abbrev pub remarks_text : List Remark → List ℕ
-remarks_text remarks = flat_map remark_text remarks
-
+-- signs, .NOT. and operators (ISO/IEC 1539:1991 section 7.1.1)
 abbrev pub sign_text : UnaryOp → List ℕ
 sign_text plus = codes "+"
 sign_text minus = codes "-"
+sign_text negation = codes ".NOT. "
 
 abbrev pub operator_text : BinaryOp → List ℕ
+operator_text power = codes "**"
+operator_text times = codes "*"
+operator_text over = codes "/"
 operator_text add = codes "+"
 operator_text subtract = codes "-"
+operator_text concat = codes "//"
+operator_text less = codes "<"
+operator_text less_equal = codes "<="
+operator_text equal = codes "=="
+operator_text not_equal = codes "/="
+operator_text greater = codes ">"
+operator_text greater_equal = codes ">="
+operator_text conjunction = codes ".AND."
+operator_text disjunction = codes ".OR."
+operator_text equivalence = codes ".EQV."
+operator_text nonequivalence = codes ".NEQV."
 
--- binary operators stand between blanks, signs have none
-abbrev pub expr_text : Expr → List ℕ
-expr_text (int v) = signed_decimal v
-expr_text (name x) = x
-expr_text (unary op a) = sign_text op ++ expr_text a
-expr_text (binary op a b) = expr_text a ++ codes " " ++ operator_text op ++ codes " " ++ expr_text b
+abbrev pub logical_text : Bool → List ℕ
+logical_text true = codes ".TRUE."
+logical_text false = codes ".FALSE."
+
+-- an apostrophe in a character constant is doubled (ISO/IEC 1539:1991 section 4.3.2.1)
+abbrev pub doubled : List ℕ → List ℕ
+doubled cs = flat_map (λ c. if c == 39 then 39 ∷ 39 ∷ [] else c ∷ []) cs
+
+-- Binary operators stand between blanks, signs have none, .NOT. has one behind it. A comma is followed by a blank.
+abbrev mutual
+  pub expr_text : Expr → List ℕ
+  expr_text (int v) = signed_decimal v
+  expr_text (bool b) = logical_text b
+  expr_text (text cs) = codes "'" ++ doubled cs ++ codes "'"
+  expr_text (name x) = x
+  expr_text (call f xs) = f ++ codes "(" ++ exprs_text xs ++ codes ")"
+  expr_text (substring a from to) = expr_text a ++ codes "(" ++ bound_text from ++ codes ":" ++ bound_text to ++ codes ")"
+  expr_text (unary op a) = sign_text op ++ expr_text a
+  expr_text (binary op a b) = expr_text a ++ codes " " ++ operator_text op ++ codes " " ++ expr_text b
+  expr_text (paren a) = codes "(" ++ expr_text a ++ codes ")"
+
+  pub exprs_text : Exprs → List ℕ
+  exprs_text none = []
+  exprs_text (more a rest) = expr_text a ++ others_text rest
+
+  -- the expressions behind the first
+  pub others_text : Exprs → List ℕ
+  others_text none = []
+  others_text (more a rest) = codes ", " ++ expr_text a ++ others_text rest
+
+  pub bound_text : Bound → List ℕ
+  bound_text absent = []
+  bound_text (at a) = expr_text a
 
 abbrev pub action_text : Action → List ℕ
 action_text (assign d e) = expr_text d ++ codes " = " ++ expr_text e

@@ -1,34 +1,42 @@
 -- Programs that can be written, and proper programs.
-use Rattle.std.specs.Prelude.{◌≡◌, ℕ, ◌≤◌, Bool, true, not, ◌&&◌, ◌==◌, nat_le, IsTrue, List, [], ◌∷◌, ◌++◌, length, map, pos, if◌then◌else◌}
+use Rattle.std.specs.Prelude.{◌≡◌, ℕ, ◌≤◌, Bool, true, false, not, ◌&&◌, nat_le, IsTrue, List, [], ◌∷◌, ◌++◌, length, map, pos}
 use Rattle.std.specs.List.{list_all, list_any}
 use Rattle.std.specs.Str.{bytes_eq}
-use Rattle.text_base.specs.Lines.{cut, is_blank}
+use Rattle.text_base.specs.Lines.{cut}
 use Rattle.text_base.specs.Chars.{is_name}
-use Rattle.text_base.specs.Trees.{UnaryOp, BinaryOp, Expr, int, name, unary, binary, Action, assign, stop}
-use Rattle.tree90.specs.Tree.{Remark, Stmt, simple, Code, done, item, Declared, integer_object, FreeUnit, FreeProgram}
+use Rattle.text_base.specs.Trees.{UnaryOp, plus, minus, negation, BinaryOp, add, subtract, Expr, int, name, unary, binary, Action, assign, stop}
+use Rattle.text_base.specs.Names.{action_names}
+use Rattle.text_base.specs.Remarks.{are_writable_remarks}
+use Rattle.text_base.specs.declared.limits.TheConstants.{GREATEST_INTEGER, LONGEST_WRITTEN}
+use Rattle.tree90.specs.Tree.{Stmt, simple, Code, done, item, Declared, integer_object, FreeUnit, FreeProgram}
 use Rattle.tree90.specs.Printed.{printed}
 
 -- an operand that stands without parentheses: a constant that isn't negative, or a name
 pub data IsOperand : Expr → Type 0 where
-  operand_int : {v : ℕ} → v ≤ 2147483647 → IsOperand (int (pos v))
+  operand_int : {v : ℕ} → v ≤ GREATEST_INTEGER → IsOperand (int (pos v))
   operand_name : {x : List ℕ} → IsTrue (is_name x) → IsOperand (name x)
 
--- an expression none of whose operands would be read differently without parentheses
+-- a sign, and an operator of sums
+abbrev pub is_sign : UnaryOp → Bool
+is_sign plus = true
+is_sign minus = true
+is_sign negation = false
+
+abbrev pub is_additive : BinaryOp → Bool
+is_additive add = true
+is_additive subtract = true
+is_additive _ = false
+
+-- An expression that can be written: a sum, none of whose operands would be read differently without parentheses. No other
+-- expression has a place in a program that can be written yet.
 pub data IsSum : Expr → Type 0 where
   only_operand : {e : Expr} → IsOperand e → IsSum e
-  signed_operand : {op : UnaryOp} {a : Expr} → IsOperand a → IsSum (unary op a)
-  sum_of : {op : BinaryOp} {a b : Expr} → IsSum a → IsOperand b → IsSum (binary op a b)
+  signed_operand : {op : UnaryOp} {a : Expr} → is_sign op ≡ true → IsOperand a → IsSum (unary op a)
+  sum_of : {op : BinaryOp} {a b : Expr} → is_additive op ≡ true → IsSum a → IsOperand b → IsSum (binary op a b)
 
 pub data IsWritableAction : Action → Type 0 where
   writable_assign : {x : List ℕ} {e : Expr} → IsTrue (is_name x) → IsSum e → IsWritableAction (assign (name x) e)
   writable_stop : IsWritableAction stop
-
--- a comment without LF, of which an unmarked one has blanks alone
-abbrev pub is_writable_remark : Remark → Bool
-is_writable_remark r = list_all (λ c. not (c == 10)) r.text && (if r.marked then true else is_blank r.text)
-
-abbrev pub are_writable_remarks : List Remark → Bool
-are_writable_remarks = list_all is_writable_remark
 
 abbrev pub IsWritableCode : Code → Type 0
 IsWritableCode done = Unit {0}
@@ -49,23 +57,16 @@ abbrev pub AreWritableUnits : List FreeUnit → Type 0
 AreWritableUnits [] = Unit {0}
 AreWritableUnits (u ∷ us) = IsWritableUnit u × AreWritableUnits us
 
--- A program that can be written: each part has a form, and no line of its text has more than 132 characters.
+-- A program that can be written: each part has a form, and no line of its text is too long.
 pub record IsWritable (p : FreeProgram) : Type 0 where
   pub units : AreWritableUnits p.units
   pub tail : IsTrue (are_writable_remarks p.tail)
-  pub short : IsTrue (list_all (λ l. nat_le (length l) 132) (cut (printed p)))
+  pub short : IsTrue (list_all (λ l. nat_le (length l) LONGEST_WRITTEN) (cut (printed p)))
 
 -- ---- proper programs
 
-abbrev pub expr_names : Expr → List (List ℕ)
-expr_names (int v) = []
-expr_names (name x) = x ∷ []
-expr_names (unary op a) = expr_names a
-expr_names (binary op a b) = expr_names a ++ expr_names b
-
 abbrev pub stmt_names : Stmt → List (List ℕ)
-stmt_names (simple (assign d e)) = expr_names d ++ expr_names e
-stmt_names (simple stop) = []
+stmt_names (simple a) = action_names a
 
 abbrev pub code_names : Code → List (List ℕ)
 code_names done = []

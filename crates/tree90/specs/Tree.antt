@@ -1,11 +1,7 @@
 -- A Fortran 90 program as a plain tree.
-use Rattle.std.specs.Prelude.{ℕ, Bool, List}
+use Rattle.std.specs.Prelude.{ℕ, List}
 use Rattle.text_base.specs.Trees.{Action}
-
--- a comment: whether it is marked, and its text
-pub record Remark : Type 0 where
-  pub marked : Bool
-  pub text : List ℕ
+use Rattle.text_base.specs.Remarks.{Remark}
 
 -- an executable statement
 pub data Stmt : Type 0 where

@@ -4,8 +4,9 @@
 mod laws;
 mod tree;
 
+pub use expr_tree::{BinaryOp as Binary90, Expr as Expr90, Exprs as Exprs90, UnaryOp as Unary90};
 pub use laws::{one_reading, printed_is_read};
 pub use tree::{
-    Binary90, Comments, Declared90, Declared90s, Expr90, Item90, Items90, Program90, Remark,
-    Simple90, Stmt90, Stmts90, Type90, Unary90, Unit90, Unit90s, UnitKind90,
+    Declared90, Declared90s, Item90, Items90, Program90, Simple90, Stmt90, Stmts90, Type90, Unit90,
+    Unit90s, UnitKind90,
 };

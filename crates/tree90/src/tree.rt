@@ -1,29 +1,7 @@
 // The tree of a Fortran 90 program.
-use sqlite_items::{Boxed, Items};
-use text_base::{Bytes, Name};
-
-/// A sign (ISO/IEC 1539:1991 section 7.1.1).
-#[derive(Clone, Copy, Debug, PartialEq, Eq)]
-pub enum Unary90 {
-    Plus,
-    Minus,
-}
-
-/// An operator between two operands (ISO/IEC 1539:1991 section 7.1.1).
-#[derive(Clone, Copy, Debug, PartialEq, Eq)]
-pub enum Binary90 {
-    Plus,
-    Minus,
-}
-
-/// An expression (ISO/IEC 1539:1991 section 7.1): an integer constant, a variable, a signed operand, a sum or a difference.
-#[derive(Debug, Drop)]
-pub enum Expr90 {
-    Int(i32),
-    Name(Name),
-    Unary(Unary90, Boxed<Expr90>),
-    Binary(Binary90, Boxed<Expr90>, Boxed<Expr90>),
-}
+use expr_tree::Expr as Expr90;
+use sqlite_items::Items;
+use text_base::{Name, Remarks};
 
 /// A simple statement: an assignment has the variable and the expression (ISO/IEC 1539:1991 section 7.5.1); STOP (ISO/IEC 1539:1991 section 8.4)
 /// has nothing.
@@ -42,20 +20,10 @@ pub enum Stmt90 {
 /// A list of statements, which contracts see as the list.
 pub type Stmts90 = Items<Stmt90>;
 
-/// A comment (ISO/IEC 1539:1991 section 3.3.1.1): a marked one is written as `!` and its text, a blank one as its text.
-#[derive(Debug, Drop)]
-pub struct Remark {
-    pub marked: bool,
-    pub text: Bytes,
-}
-
-/// A list of comments, which contracts see as the list.
-pub type Comments = Items<Remark>;
-
 /// The comments before one item of a source list, and the statements that stand for it: none for a CONTINUE.
 #[derive(Debug, Drop)]
 pub struct Item90 {
-    pub comments: Comments,
+    pub comments: Remarks,
     pub body: Stmts90,
 }
 
@@ -91,9 +59,9 @@ pub struct Unit90 {
     pub name: Name,
     pub declared: Declared90s,
     pub items: Items90,
-    pub head: Comments,
-    pub inner: Comments,
-    pub tail: Comments,
+    pub head: Remarks,
+    pub inner: Remarks,
+    pub tail: Remarks,
 }
 
 /// A list of units, which contracts see as the list.
@@ -103,5 +71,5 @@ pub type Unit90s = Items<Unit90>;
 #[derive(Debug, Drop)]
 pub struct Program90 {
     pub units: Unit90s,
-    pub tail: Comments,
+    pub tail: Remarks,
 }

@@ -1,11 +1,24 @@
-use Rattle.std.proofs.Common.{◌≡◌, ◌∙◌, sym, Some, length, arith, rules}
-use Rattle.expr77.specs.ItemReading.{read_item}
-use Rattle.expr77.specs.Views.{tokens_of, item_of, stand_of, gathered_of}
-use Rattle.expr77.proofs.GatherLaw.{gather_step}
+use Rattle.std.proofs.Common.{◌≡◌, ◌∙◌, ◌+◌, ◌-◌, None, length, sym, ap, arith}
+use Rattle.std.specs.Prelude.{if◌then◌else◌}
+use Rattle.std.specs.Option.{option_map}
+use Rattle.std.proofs.lemmas.List.{length-map}
+use Rattle.scan77.specs.Token.{token_of, tokens_of}
+use Rattle.expr77.specs.Gathering.{nothing_gathered}
+use Rattle.expr77.specs.Views.{part_of, left_of}
+use Rattle.expr77.proofs.GatherLaw.{all_left, turn}
 use Rattle.expr77.proofs.gathering.gather.Goals as goal
 
-pub loop-preserved : goal.loop-preserved
-loop-preserved c =
-    let read : read_item (stand_of c.loop.stand) (tokens_of c.loop.rest.now) ≡ Some (item_of c.in-Some.item, tokens_of c.in-Some.behind.now) = search rules in
-    let step = gather_step (gathered_of c.loop.gathered) c.loop.depth (length c.args.tokens.now) c.loop.counter (stand_of c.loop.stand) (tokens_of c.loop.rest.now) (tokens_of c.in-Some.behind.now) (item_of c.in-Some.item) c.loop-test.true read in
-    (rw (c.in_ok-add.ensures, c.depth_behind-behind_item.ensures.value, c.stand_behind-stand.ensures) (sym step ∙ c.loop.invariant.0), omega (arith, c.depth_behind-behind_item.ensures.bound, c.loop.invariant.1))
+pub loop-init : goal.loop-init
+loop-init c =
+    let turns : length c.args.tokens.now - 0 ≡ length (tokens_of c.args.tokens.now) = omega (arith, length-map c.args.tokens.now token_of) in
+    let all = all_left (nothing_gathered (option_map part_of c.args.lowest)) c.args.depth (length c.args.tokens.now - 0) (tokens_of c.args.tokens.now) turns in
+    (rw c.new-symbols.ensures all, omega arith)
+
+pub returns-then-not-branch : goal.returns-then-not-branch
+returns-then-not-branch c =
+    let n = length c.args.tokens.now - (c.loop.counter + 1) in
+    let none : left_of (length c.args.tokens.now - c.loop.counter) c.loop.reading ≡ None =
+    ap (λ n. left_of n c.loop.reading) (turn (length c.args.tokens.now) c.loop.counter c.loop-test.true)
+    ∙ c.in_ok-next.ensures.read n
+    ∙ ap (λ b. if b then left_of n c.next.new.self else None) c.if-not-branch.true in
+    sym none ∙ c.loop.invariant.0

@@ -1,11 +1,13 @@
-use Rattle.std.proofs.Common.{◌≡◌, ◌-◌, ◌≤◌, length}
-use Rattle.expr77.specs.Gathering as form
-use Rattle.expr77.specs.ItemReading.{at_operand}
-use Rattle.expr77.specs.Views.{tokens_of, stand_of, gathered_of}
+use Rattle.std.proofs.Common.{◌≡◌, ◌+◌, ◌-◌, ◌≤◌, length}
+use Rattle.std.specs.Option.{option_map}
+use Rattle.scan77.specs.Token.{tokens_of}
+use Rattle.expr77.specs.Gathering.{with_lexemes, nothing_gathered}
+use Rattle.expr77.specs.LexemeReading.{lexemes_of}
+use Rattle.expr77.specs.Views.{part_of, left_of}
 use Rattle.expr77.proofs.gathering.gather.Given as goal
 
--- what is gathered with what is left is what all gives
+-- what is gathered, with the lexemes of what is left, is what all gives
 abbrev pub invariant-loop : goal.invariant-loop
 invariant-loop l =
-    (form.gather (gathered_of l.gathered) l.depth (length l.fn.tokens - l.counter) (stand_of l.stand) (tokens_of l.rest) ≡ form.gather form.nothing_gathered 0 (length l.fn.tokens) at_operand (tokens_of l.fn.tokens))
-    × (l.depth ≤ l.counter)
+    (left_of (length l.fn.tokens - l.counter) l.reading ≡ option_map (with_lexemes (nothing_gathered (option_map part_of l.fn.lowest)) l.fn.depth) (lexemes_of (tokens_of l.fn.tokens)))
+    × (l.reading.depth ≤ l.fn.depth + l.counter)

@@ -1,9 +1,8 @@
-use Rattle.std.proofs.Common.{◌≡◌, ◌≤◌, ◌++◌, length, take, drop, flat_map}
-use Rattle.expr77.specs.Views.{tokens_of}
+use Rattle.std.proofs.Common.{◌≡◌, take, flat_map}
+use Rattle.text_base.specs.declared.limits.TheConstants.{MOST_SHOWN}
+use Rattle.scan77.specs.Token.{tokens_of}
 use Rattle.expr77.proofs.parsing.first_characters.Given as goal
 
--- the characters so far, with those of what is left, begin as those of all
+-- the first characters of the tokens so far
 abbrev pub invariant-loop-token : goal.invariant-loop-token
-invariant-loop-token l =
-    (take 12 (l.made ++ flat_map (λ t. t.text) (tokens_of (drop l.token-index l.tokens))) ≡ take 12 (flat_map (λ t. t.text) (tokens_of l.tokens)))
-    × (length l.made ≤ 12)
+invariant-loop-token l = l.made ≡ take MOST_SHOWN (flat_map (λ t. t.text) (tokens_of (take l.token-index l.tokens)))

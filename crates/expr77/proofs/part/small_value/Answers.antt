@@ -2,7 +2,7 @@ use Rattle.std.proofs.Common.{arith}
 use Rattle.expr77.proofs.Decimals.{too_great}
 use Rattle.expr77.proofs.part.small_value.Goals as goal
 
-pub returns-then-value-gt-GREATEST : goal.returns-then-value-gt-GREATEST
-returns-then-value-gt-GREATEST c =
+pub returns-then-value-gt-GREATEST_INTEGER : goal.returns-then-value-gt-GREATEST_INTEGER
+returns-then-value-gt-GREATEST_INTEGER c =
     too_great c.args.digits.now c.loop-digit.digit-index c.loop-digit.value c.loop-digit-test.true c.loop-digit.invariant.1
-    (omega (arith, c.if-value-gt-GREATEST.true, c.from.ensures, c.saturating_sub.ensures))
+    (omega (arith, c.if-value-gt-GREATEST_INTEGER.true, c.from.ensures, c.saturating_sub.ensures))

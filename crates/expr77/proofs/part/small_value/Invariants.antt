@@ -1,5 +1,5 @@
 use Rattle.std.proofs.Common.{◌≡◌, ◌≤◌, drop}
-use Rattle.tree77.specs.Items.{decimal_from, decimal}
+use Rattle.tree77.specs.Lexemes.{decimal_from, decimal}
 use Rattle.expr77.proofs.part.small_value.Given as goal
 
 -- what is left goes on from the value so far

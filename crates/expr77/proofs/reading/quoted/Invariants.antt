@@ -1,5 +1,5 @@
 use Rattle.std.proofs.Common.{◌≡◌, drop, false, Some}
-use Rattle.expr77.specs.ItemReading.{read_quoted, with_quoted}
+use Rattle.expr77.specs.LexemeReading.{read_quoted, with_quoted}
 use Rattle.expr77.proofs.reading.quoted.Given as goal
 
 -- the characters so far and those of what is left are those of all

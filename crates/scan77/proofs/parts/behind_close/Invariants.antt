@@ -1,12 +1,12 @@
 use Rattle.std.proofs.Common.{◌≡◌, ◌+◌, ◌≤◌, length}
-use Rattle.tree77.specs.KindReading as reading
-use Rattle.scan77.specs.Views.{outline_of}
+use Rattle.scan77.specs.KindReading as reading
+use Rattle.scan77.specs.Outline.{left_of}
 use Rattle.scan77.proofs.parts.behind_close.Given as goal
 
 -- as many parentheses are open as were opened, and each is a character
 abbrev pub invariant-loop-character : goal.invariant-loop-character
 invariant-loop-character l = record {
-  same : reading.behind_close l.depth (outline_of l.rest) ≡ reading.behind_close 0 (outline_of l.fn.at);
+  same : reading.behind_close l.depth (left_of l.rest) ≡ reading.behind_close 0 (left_of l.fn.at);
   few : l.depth + length l.rest.text.now ≤ length l.fn.at.text.now;
 }
 

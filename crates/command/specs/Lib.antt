@@ -1,0 +1,9 @@
+pub mod Status
+pub mod Words
+pub mod Outputs
+pub mod FromFile
+pub mod Lines
+pub mod Answers
+pub mod Print
+pub mod Views
+pub mod Store

@@ -1,7 +1,0 @@
-use Rattle.expr77.specs.Groups.{left_of}
-use Rattle.expr77.proofs.Feeding.{first_seen}
-use Rattle.expr77.proofs.feed.Feed.peek.Goals as goal
-
-pub returns : goal.returns
-unfolding left_of
-returns c = first_seen _ c.top.result c.top.ensures

@@ -1,7 +1,0 @@
-use Rattle.expr77.specs.Groups.{left_of}
-use Rattle.expr77.proofs.Feeding.{taken_seen}
-use Rattle.expr77.proofs.feed.Feed.take.Goals as goal
-
-pub returns : goal.returns
-unfolding left_of
-returns c = taken_seen _ _ c.pop.result c.pop.ensures

@@ -1,9 +1,0 @@
-use Rattle.tree77.specs.SyntaxPlain.{expr_of, binary_of}
-use Rattle.expr77.specs.Groups.{left_of}
-use Rattle.expr77.proofs.FactorSteps.{power_reads}
-use Rattle.expr77.proofs.group.+factor.Goals as goal
-
-pub returns : goal.returns
-returns t c =
-    power_reads (left_of c.args.feed.now) (left_of c.take_operand.new.self) (left_of c.take_operator.new.self) (left_of c.factor.new.feed) (expr_of c.in_ok-base.base) (expr_of c.in_ok-exponent.exponent) (expr_of c.in_ok-binary.field-0)
-    (binary_of c.in-Some.op) c.in_ok-base.ensures c.in-Some.ensures c.in_ok-exponent.ensures c.in_ok-binary.ensures

@@ -1,6 +1,0 @@
-use Rattle.std.proofs.Common.{length}
-use Rattle.expr77.specs.Groups.{left_of}
-use Rattle.expr77.proofs.group.+factor.Given as goal
-
-abbrev pub decreases-factor : goal.decreases-factor
-decreases-factor l = length (left_of l.feed.now)

@@ -1,0 +1,5 @@
+pub mod Joining
+pub mod Lists
+pub mod Arguments
+pub mod Rooms
+pub mod UnitTexts

@@ -1,0 +1,13 @@
+pub mod GroupSteps
+pub mod ChainSteps
+pub mod FactorSteps
+pub mod Feeding
+pub mod BuilderSteps
+pub mod GroupLaw
+pub mod Carrying
+pub mod BuildParts
+pub mod BuildDepth
+pub mod BuildComplete
+pub mod BuildSound
+pub mod BuildLaw
+pub mod Nesting

@@ -1,0 +1,5 @@
+pub mod Symbol
+pub mod Grouping
+pub mod Groups
+pub mod Building
+pub mod BuilderViews

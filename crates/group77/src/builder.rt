@@ -1,0 +1,285 @@
+// Builds the tree of an expression from its symbols.
+ghost use Rattle.std.specs.Prelude.{◌≡◌, [], Some, Err, map, IfOk};
+ghost use Rattle.text_base.specs.Trees as tree;
+ghost use Rattle.expr_tree.specs.Plain.{expr_of, binary_of};
+ghost use Rattle.tree77.specs.Expressions.{IsExpression};
+ghost use Rattle.group77.specs.Building as machine;
+ghost use Rattle.group77.specs.Symbol.{symbol_of, Gives, GivesSeen};
+ghost use Rattle.group77.specs.BuilderViews.{opening_of, level_of, state_of, is_in_list};
+ghost use Rattle.group77.specs.declared.stop.Stop.TheVariants.{NotSpelled};
+
+use crate::feed::{Sort, is_of};
+use crate::group::group;
+use crate::opening::{Opening, argument, bound, closed, is_specifier, opening_behind, parent_of};
+use crate::stack::Stack;
+use crate::stop::Stop;
+use crate::symbol::{Symbol, Symbols};
+use expr_tree::{BinaryOp, Expr};
+use std::alloc::Global;
+
+/// An open parenthesis: what it belongs to, and the operands and operators before it.
+#[derive(Drop)]
+struct Level {
+    before: Symbols,
+    of: Opening,
+}
+
+/// The open parentheses, the innermost on top, the operands and operators behind it, and whether an array element stands last.
+#[derive(Drop)]
+struct Builder {
+    levels: Stack<Level>,
+    symbols: Symbols,
+    is_element: bool,
+}
+
+/// A further parenthesis is open, behind these symbols, and nothing stands in it yet.
+fn opened(
+    alloc: Global,
+    mut levels: Stack<Level>,
+    before: Symbols,
+    of: Opening,
+) -> Result<Builder, Stop>
+    ensures { GivesSeen state_of result (Some (machine.open_level (map level_of levels) (map symbol_of before) (opening_of of))) }
+{
+    levels.push(Level { before, of })?;
+    Ok(Builder {
+        levels,
+        symbols: Symbols::new(alloc),
+        is_element: false,
+    })
+}
+
+impl Builder {
+    /// No parenthesis is open, and no symbol has been taken.
+    fn new(alloc: Global) -> Builder
+        ensures { state_of result ≡ machine.standing [] [] }
+    {
+        Builder {
+            levels: Stack::new(alloc),
+            symbols: Symbols::new(alloc),
+            is_element: false,
+        }
+    }
+
+    /// Whether an operand stands last.
+    #[tactic(auto, using(crate::proofs::BuilderSteps::last_ends))]
+    fn is_after(&self) -> bool
+        ensures { result ≡ machine.is_after (map symbol_of self.now.symbols) }
+    {
+        match self.symbols.as_slice().last() {
+            Some(last) => last.ends(),
+            None => false,
+        }
+    }
+
+    /// Puts a symbol last.
+    fn push(self, symbol: Symbol) -> Result<Builder, Stop>
+        ensures { GivesSeen state_of result (Some (machine.push (symbol_of symbol) (state_of self))) }
+    {
+        let Builder {
+            levels,
+            mut symbols,
+            ..
+        } = self;
+        symbols.push(symbol)?;
+        Ok(Builder {
+            levels,
+            symbols,
+            is_element: false,
+        })
+    }
+
+    /// Takes an operand, which stands behind none.
+    fn operand(self, operand: Expr) -> Result<Builder, Stop>
+        ensures { GivesSeen state_of result (machine.step_operand (expr_of operand) (state_of self)) }
+    {
+        if self.is_after() {
+            return Err(Stop::NotSpelled);
+        }
+        self.push(Symbol::Operand(operand))
+    }
+
+    /// Takes an operator, which stands behind an operand or is a sign.
+    fn operator(self, op: BinaryOp) -> Result<Builder, Stop>
+        ensures { GivesSeen state_of result (machine.step_operator (binary_of op) (state_of self)) }
+    {
+        if self.is_after() || is_of(op, Sort::Sum) {
+            return self.push(Symbol::Operator(op));
+        }
+        Err(Stop::NotSpelled)
+    }
+
+    /// Takes `.NOT.`, which stands behind no operand.
+    fn not_sign(self) -> Result<Builder, Stop>
+        ensures { GivesSeen state_of result (machine.step_not (state_of self)) }
+    {
+        if self.is_after() {
+            return Err(Stop::NotSpelled);
+        }
+        self.push(Symbol::Not)
+    }
+
+    /// Whether the innermost open parenthesis may have arguments.
+    #[tactic(auto, using(crate::proofs::BuilderSteps::in_list_at, crate::proofs::BuilderSteps::in_list_nowhere))]
+    fn is_in_list(&self) -> bool
+        ensures { result ≡ is_in_list (map level_of self.now.levels) }
+    {
+        match self.levels.top() {
+            Some(level) => level.of.is_list(),
+            None => false,
+        }
+    }
+
+    /// Takes an alternate return specifier, which stands alone in its argument.
+    fn alternate(self) -> Result<Builder, Stop>
+        ensures { GivesSeen state_of result (machine.step_alternate (map level_of self.levels) (map symbol_of self.symbols)) }
+    {
+        if self.is_in_list() && self.symbols.is_empty() {
+            return self.push(Symbol::Alternate);
+        }
+        Err(Stop::NotSpelled)
+    }
+
+    /// Opens a parenthesis. Behind a name or an array element it belongs to it; behind other operands none may stand.
+    #[tactic(auto, using(crate::proofs::BuilderSteps::opens_group))]
+    fn open(self, alloc: Global) -> Result<Builder, Stop>
+        ensures { let symbols = map symbol_of self.symbols in GivesSeen state_of result (machine.opening_at self.is_element (map level_of self.levels) symbols (machine.split_last symbols)) }
+    {
+        if !self.is_after() {
+            return opened(alloc, self.levels, self.symbols, Opening::Group);
+        }
+        let Builder {
+            levels,
+            mut symbols,
+            is_element,
+        } = self;
+        let Some(last) = symbols.pop() else {
+            return Err(Stop::NotSpelled);
+        };
+        let of = opening_behind(alloc, last, is_element)?;
+        opened(alloc, levels, symbols, of)
+    }
+
+    /// Takes a comma, which ends an argument or a subscript.
+    fn comma(self, alloc: Global) -> Result<Builder, Stop>
+        ensures { GivesSeen state_of result (machine.step_comma (map level_of self.levels) (map symbol_of self.symbols)) }
+    {
+        let Builder {
+            mut levels,
+            symbols,
+            ..
+        } = self;
+        let Some(Level { before, of }) = levels.pop() else {
+            return Err(Stop::NotSpelled);
+        };
+        let Opening::List {
+            name,
+            mut arguments,
+            is_element,
+        } = of
+        else {
+            return Err(Stop::NotSpelled);
+        };
+        let is_element = is_element && !is_specifier(&symbols);
+        let last = argument(alloc, symbols)?;
+        arguments.push(last)?;
+        let of = Opening::List {
+            name,
+            arguments,
+            is_element,
+        };
+        opened(alloc, levels, before, of)
+    }
+
+    /// Takes a colon, which ends the lower bound of a substring.
+    fn colon(self, alloc: Global) -> Result<Builder, Stop>
+        ensures { GivesSeen state_of result (machine.step_colon (map level_of self.levels) (map symbol_of self.symbols)) }
+    {
+        let Builder {
+            mut levels,
+            symbols,
+            ..
+        } = self;
+        let Some(Level { before, of }) = levels.pop() else {
+            return Err(Stop::NotSpelled);
+        };
+        let parent = parent_of(of)?;
+        let from = bound(alloc, symbols)?;
+        opened(alloc, levels, before, Opening::Bound(parent, from))
+    }
+
+    /// Closes the innermost parenthesis: what it belongs to and what stands in it are one operand.
+    fn close(self, alloc: Global) -> Result<Builder, Stop>
+        ensures { GivesSeen state_of result (machine.step_closing (map level_of self.levels) (map symbol_of self.symbols)) }
+    {
+        let Builder {
+            mut levels,
+            symbols,
+            ..
+        } = self;
+        let Some(Level { mut before, of }) = levels.pop() else {
+            return Err(Stop::NotSpelled);
+        };
+        let is_element = of.is_element(&symbols);
+        let operand = closed(alloc, of, symbols)?;
+        before.push(Symbol::Operand(operand))?;
+        Ok(Builder {
+            levels,
+            symbols: before,
+            is_element,
+        })
+    }
+
+    /// Takes the next symbol.
+    fn step(self, alloc: Global, symbol: Symbol) -> Result<Builder, Stop>
+        ensures { GivesSeen state_of result (machine.step (symbol_of symbol) (state_of self)) }
+    {
+        match symbol {
+            Symbol::Operand(operand) => self.operand(operand),
+            Symbol::Alternate => self.alternate(),
+            Symbol::Operator(op) => self.operator(op),
+            Symbol::Not => self.not_sign(),
+            Symbol::Open => self.open(alloc),
+            Symbol::Close => self.close(alloc),
+            Symbol::Comma => self.comma(alloc),
+            Symbol::Colon => self.colon(alloc),
+        }
+    }
+
+    /// The tree, where no parenthesis is open at the end.
+    fn finish(self, alloc: Global) -> Result<Expr, Stop>
+        ensures { Gives result (machine.finish (state_of self)) }
+    {
+        let Builder {
+            mut levels,
+            symbols,
+            ..
+        } = self;
+        match levels.pop() {
+            Some(_) => Err(Stop::NotSpelled),
+            None => group(alloc, symbols),
+        }
+    }
+}
+
+/// What the machine builds from all symbols.
+#[tactic(auto, unfolding(crate::specs::Building::build))]
+fn build_all(alloc: Global, symbols: Symbols) -> Result<Expr, Stop>
+    ensures { Gives result (machine.build (map symbol_of symbols)) }
+{
+    let mut left = Stack::from_items(alloc, symbols)?;
+    let mut builder = Builder::new(alloc);
+    while let Some(symbol) = left.pop() {
+        builder = builder.step(alloc, symbol)?;
+    }
+    builder.finish(alloc)
+}
+
+/// The tree of the symbols of an expression (X3.9 section 6). `NotSpelled` comes where they are none, and `Memory` where
+/// memory is wanting.
+pub fn build(alloc: Global, symbols: Symbols) -> Result<Expr, Stop>
+    ensures found { IfOk result (λ x. IsExpression (map symbol_of symbols) (expr_of x)) }
+    ensures none { result ≡ Err NotSpelled → (x : tree.Expr) → IsExpression (map symbol_of symbols) x → ⊥ }
+{
+    build_all(alloc, symbols)
+}

@@ -1,5 +1,0 @@
-use Rattle.modern_cli.proofs.TextLemmas.{object_text}
-use Rattle.modern_cli.proofs.free_text.write_object.Goals as goal
-
-pub returns : goal.returns
-returns c = rw (object_text c.args.kind c.args.name.now, ← c.as_slice.ensures.characters) c.write_line.ensures

@@ -1,6 +1,0 @@
-use Rattle.std.proofs.Common.{◌≡◌, take}
-use Rattle.modern_cli.specs.Lines.{refusal_lines}
-use Rattle.modern_cli.proofs.lines.refusal_text.Given as goal
-
-abbrev pub invariant-loop-refusal : goal.invariant-loop-refusal
-invariant-loop-refusal l = l.text ≡ refusal_lines l.file (take l.refusal-index l.refusals)

@@ -1,7 +1,0 @@
-use Rattle.std.proofs.Common.{◌≡◌, ◌++◌, map, flat_map, take}
-use Rattle.tree77.specs.Plain.{unit_of}
-use Rattle.modern_cli.specs.UnitLines.{unit_lines_text}
-use Rattle.modern_cli.proofs.map.write_units.Given as goal
-
-abbrev pub invariant-loop-unit : goal.invariant-loop-unit
-invariant-loop-unit l = l.out ≡ l.fn.out ++ flat_map unit_lines_text (map unit_of (take l.unit-index l.units))

@@ -1,0 +1,4 @@
+mod ItemLists
+mod SourceReading
+mod StatementReading
+mod ValueReading

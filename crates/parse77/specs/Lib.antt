@@ -1,0 +1,3 @@
+pub mod Reading
+pub mod Statement
+pub mod Unit

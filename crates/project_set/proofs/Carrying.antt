@@ -1,0 +1,67 @@
+-- What is written for a source does what the source does.
+use Rattle.std.proofs.Common.{◌≡◌, ℕ, ◌≤◌, List, [], ◌∷◌, map, Some, sym, ap, subst}
+use Rattle.std.proofs.lemmas.List.{append-nil}
+use Rattle.text_base.specs.Cards.{Comment, comments}
+use Rattle.text_base.specs.Runs.{Final, going, ended, fault}
+use Rattle.tree77.specs.Tree.{SourceUnit, SourceProgram}
+use Rattle.tree77.specs.Typing.{variables, code_names}
+use Rattle.tree77.specs.Source.{IsSource}
+use Rattle.tree77.specs.Layout.{Layout}
+use Rattle.tree77.specs.Meaning.{Store, start77, run77, run_main}
+use Rattle.tree77.specs.Meaning as flat
+use Rattle.tree90.specs.Tree.{integer_object}
+use Rattle.tree90.specs.Meaning.{Objects, object_of, start90, run90}
+use Rattle.tree90.specs.Meaning as nested
+use Rattle.project_set.specs.MapText.{MapLine, map_lines, map_line_of}
+use Rattle.project_set.specs.Match.{IsMap, Matches, DoesTheSame}
+use Rattle.project_set.specs.Rewrite.{comments_from, written, written_unit}
+use Rattle.project_set.proofs.Names.{distinct_first_seen}
+use Rattle.project_set.proofs.Placing.{layout_at, one_unit, variables_of_one, layout_of_one}
+use Rattle.project_set.proofs.Agreeing.{Agrees, agrees_start}
+use Rattle.project_set.proofs.Following.{Alike, follows_unit}
+use Rattle.project_set.proofs.Mapping.{map_lines_at, is_map_at, carried_at}
+
+module _ (cs : List Comment) (u : SourceUnit) where
+  abbrev layout : Layout
+  layout = layout_at u.name (variables u)
+
+  abbrev lines : List MapLine
+  lines = map_lines_at u.name (variables u)
+
+  lines_are : map_lines (one_unit u) ≡ lines
+  lines_are = ap (map (map_line_of (u.name ∷ []))) (variables_of_one u)
+
+  -- runs that are alike match
+  matches : (x : Final Store) (y : Final Objects) → Alike u.name (variables u) x y → Matches layout lines x y
+  matches (going w) (going w') a = carried_at u.name (variables u) (distinct_first_seen (code_names u.code)) w w' a
+  matches (going w) (ended w' c') a = absurd a
+  matches (going w) (fault here' kind') a = absurd a
+  matches (ended w c) (going w') a = absurd a
+  matches (ended w c) (ended w' c') a = (carried_at u.name (variables u) (distinct_first_seen (code_names u.code)) w w' a.0, a.1)
+  matches (ended w c) (fault here' kind') a = absurd a
+  matches (fault here kind) f a = tt
+
+  start_is : start90 (written cs (one_unit u)) ≡ map (object_of u.name) (map integer_object (variables u))
+  start_is = append-nil (map (object_of u.name) (map integer_object (variables u)))
+
+  -- the written unit follows the source's
+  unit_follows : (n : ℕ) → (m : ℕ) × (n ≤ m) × Matches layout lines (run_main layout (Some u) n) (nested.run_main (start90 (written cs (one_unit u))) (Some (written_unit cs 0 u)) m)
+  unit_follows n =
+      let agree = subst (Agrees u.name (variables u) (start77 layout)) (sym start_is) (agrees_start u.name (variables u)) in
+      let f = (follows_unit u.name (variables u) flat.no_function nested.no_function (comments_from cs 2) u.code 1 n (start77 layout) (start90 (written cs (one_unit u))) agree).by in
+      (f.0, f.1, matches _ _ f.2)
+
+  one_does_the_same : DoesTheSame (one_unit u) (written cs (one_unit u)) (map_lines (one_unit u))
+  one_does_the_same = record {
+    is_map = subst (λ (l : Layout). IsMap l (map_lines (one_unit u))) (sym (layout_of_one u)) (subst (IsMap layout) (sym lines_are) (is_map_at u.name (variables u) (distinct_first_seen (code_names u.code))));
+    follows = λ n.
+        let f = unit_follows n in (
+          f.0,
+          f.1,
+          subst (λ (l : Layout). Matches l (map_lines (one_unit u)) (run_main l (Some u) n) (run90 (written cs (one_unit u)) f.0)) (sym (layout_of_one u))
+              (subst (λ (ls : List MapLine). Matches layout ls (run_main layout (Some u) n) (run90 (written cs (one_unit u)) f.0)) (sym lines_are) f.2),
+        );
+  }
+
+pub does_the_same : (bytes : List ℕ) (p : SourceProgram) → IsSource 0 bytes p → DoesTheSame p (written (comments bytes) p) (map_lines p)
+does_the_same bytes p source = subst (λ (q : SourceProgram). DoesTheSame q (written (comments bytes) q) (map_lines q)) (sym source.whole) (one_does_the_same (comments bytes) source.unit)

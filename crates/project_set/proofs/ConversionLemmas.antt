@@ -1,0 +1,56 @@
+-- What is converted: the program of a file, with its comments.
+use Rattle.std.proofs.Common.{◌≡◌, ℕ, zero, suc, ◌+◌, ◌-◌, ◌≤◌, List, [], length, Some, None, refl, sym, ap, ◌∙◌, subst, arith}
+use Rattle.std.specs.Prelude.{if◌then◌else◌}
+use Rattle.std.specs.Option.{option_map, option_and_then}
+use Rattle.std.proofs.lemmas.List.{length-map}
+use Rattle.text_base.specs.Cards.{Comment, cards, comments}
+use Rattle.text_base.specs.LineRefusals.{card_refusals}
+use Rattle.tree77.specs.Plain.{unit_of}
+use Rattle.tree77.specs.Source.{IsSource}
+use Rattle.tree77.specs.Tree.{SourceUnit, SourceProgram}
+use Rattle.tree77.specs.declared.tree.Unit77.{Unit77}
+use Rattle.parse77.specs.Reading.{read_of, read_cards, read_unit, typed_unit, unless_refused, read_source}
+use Rattle.project_set.specs.Comments.{groups_at, ArePlaced}
+use Rattle.project_set.specs.Conversion.{IsConvertible}
+use Rattle.project_set.specs.Refusals.{statement_refusals, unit_refusals}
+use Rattle.project_set.specs.Rewrite.{comments_from}
+use Rattle.project_set.specs.declared.comments.Comments.{Comments}
+use Rattle.project_set.proofs.Placing.{one_unit}
+use Rattle.project_set.proofs.RefusalLemmas.{Accepted, nothing_refused, unit_is_typed}
+use Rattle.project_set.proofs.SizeLemmas.{unit_size, items_count}
+
+-- what the law on sources says: the program that is read is the one that the bytes are the source of
+abbrev pub SourceFound : Type 0
+SourceFound = (file : ℕ) (bytes : List ℕ) (p : SourceProgram) → read_source file bytes ≡ Some p → IsSource file bytes p
+
+-- a program whose lines and statements are accepted is converted
+pub converted : SourceFound → (bytes : List ℕ) (u : SourceUnit) → card_refusals 0 bytes ≡ [] → statement_refusals (cards 0 bytes) ≡ [] → read_unit (read_cards 0 bytes) ≡ Some u → IsConvertible bytes (one_unit u)
+converted found bytes u lines statements unit =
+    let typed = unit_is_typed (cards 0 bytes) u statements unit in
+    let read : read_source 0 bytes ≡ Some (one_unit u) =
+    ap (λ rs. unless_refused rs (option_map one_unit (option_and_then typed_unit (read_unit (read_cards 0 bytes))))) lines
+    ∙ ap (λ o. option_map one_unit (option_and_then typed_unit o)) unit
+    ∙ ap (λ b. option_map one_unit (if b then Some u else None)) typed in
+    let none : Accepted bytes = record { lines = lines; statements = statements; unit = ap (unit_refusals 0) unit } in
+    record { is_source = found 0 bytes (one_unit u) read; accepted = nothing_refused bytes none }
+
+length_groups : (cs : List Comment) (k n : ℕ) → length (groups_at cs k n) ≡ n
+length_groups cs k zero = refl
+length_groups cs k (suc n) = let more = length_groups cs (k + 1) n in omega (arith, more)
+
+-- the statements of a unit, and the comments of its file
+pub record IsUnitOf (bytes : List ℕ) (u : Unit77) (placed : Comments) : Type 0 where
+  pub counted : length placed.before ≡ length u.items + 1
+  pub at : ArePlaced (comments bytes) (length placed.before) placed
+
+pub unit_of_file : (bytes : List ℕ) (u : Unit77) (placed : Comments) → read_unit (read_cards 0 bytes) ≡ Some (unit_of u)
+    → (2 ≤ length (cards 0 bytes) → ArePlaced (comments bytes) (length (cards 0 bytes) - 1) placed) → IsUnitOf bytes u placed
+unit_of_file bytes u placed unit at =
+    let count : length (cards 0 bytes) ≡ length u.items + 2 =
+    sym (unit_size (read_cards 0 bytes) (unit_of u) unit ∙ length-map (cards 0 bytes) read_of) ∙ ap (λ n. n + 2) (items_count u.items) in
+    let here = at (omega (arith, count)) in
+    let size : length placed.before ≡ length (cards 0 bytes) - 1 = ap length here.before ∙ length_groups (comments_from (comments bytes) 2) 1 (length (cards 0 bytes) - 1) in
+    record {
+      counted = omega (arith, size, count);
+      at = subst (λ n. ArePlaced (comments bytes) n placed) (sym size) here;
+    }

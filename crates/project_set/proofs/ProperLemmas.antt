@@ -1,0 +1,119 @@
+-- What is written for a source that is converted is proper.
+use Rattle.std.proofs.Common.{◌≡◌, ℕ, ◌+◌, ◌<◌, ◌≤◌, length, true, not, List, [], ◌∷◌, ◌++◌, map, refl, sym, ap, ◌∙◌, subst}
+use Rattle.std.specs.List.{All, list_all}
+use Rattle.std.specs.Str.{bytes_eq}
+use Rattle.std.proofs.lemmas.List.{append-nil}
+use Rattle.std.proofs.lemmas.List.Folds.{list_all-map}
+use Rattle.std.proofs.lemmas.Bool.{and_from, and_parts}
+use Rattle.text_base.specs.Lines.{cut}
+use Rattle.text_base.specs.Cards.{Card, Comment, cards, comments}
+use Rattle.text_base.specs.Chars.{is_name}
+use Rattle.text_base.specs.declared.limits.TheConstants.{LARGEST_FILE}
+use Rattle.text_base.specs.Names.{action_names}
+use Rattle.tree77.specs.Tree.{simple, continue, Code, done, item, SourceUnit, SourceProgram}
+use Rattle.tree77.specs.Typing as source
+use Rattle.tree77.specs.Typing.{first_seen, variables, is_integer_name, is_variable, is_typed}
+use Rattle.text_base.specs.Remarks.{Remark}
+use Rattle.tree90.specs.Tree.{integer_object}
+use Rattle.tree90.specs.Printed.{printed}
+use Rattle.tree90.specs.Proper as p
+use Rattle.tree90.specs.Proper.{declared_name, is_among, are_distinct, IsWritableUnit, IsWritable, IsProper}
+use Rattle.project_set.specs.Rewrite.{remark_of, comments_from, remarks_at, written_list, written_unit, sizes_of, written}
+use Rattle.project_set.specs.Laws.{WrittenIsProper}
+use Rattle.project_set.proofs.Names.{distinct_first_seen}
+use Rattle.project_set.proofs.RefusalLemmas.{accepted, lines_accepted}
+use Rattle.project_set.proofs.Seen.{all_implied, all_first, apart_from_all, are_distinct_names, all_are_seen}
+use Rattle.project_set.proofs.ShortPieces.{is_short, short_nothing, short_append}
+use Rattle.project_set.proofs.ShortRemarks.{are_short_comments, are_writable, remarks_are_short, remarks_of_comments, remarks_at_are_short, comments_from_are_short, comments_are_short}
+use Rattle.project_set.proofs.ShortLineLemmas.{CardOnly, ShortUnit, unit_is_spelled, unit_lines}
+
+-- ---- names
+
+-- the names of what is written for a list are those of the list
+written_names : (cs : List Comment) (k : ℕ) (left : List Remark) (code : Code) → p.code_names (written_list cs k left code).0 ≡ source.code_names code
+written_names cs k left done = refl
+written_names cs k left (item label here (simple a) rest) = ap (λ names. action_names a ++ names) (written_names cs (k + 1) [] rest)
+written_names cs k left (item label here continue rest) = written_names cs (k + 1) _ rest
+
+-- declared objects have the names that they are made of
+declared_names : (xs : List (List ℕ)) → map declared_name (map integer_object xs) ≡ xs
+declared_names [] = refl
+declared_names (x ∷ xs) = ap (λ ys. x ∷ ys) (declared_names xs)
+
+-- a unit's name differs from its variables
+name_is_apart : (u : SourceUnit) → is_typed u ≡ true → not (is_among (variables u) u.name) ≡ true
+name_is_apart u typed =
+    apart_from_all u.name (variables u) (all_first (λ y. not (bytes_eq u.name y)) (source.code_names u.code)
+    (all_implied (is_variable u.name) (λ y. not (bytes_eq u.name y)) (λ y e. (and_parts (is_integer_name y) (not (bytes_eq u.name y)) e).1) (source.code_names u.code) typed))
+
+-- a unit's name and its variables are distinct
+names_are_distinct : (u : SourceUnit) → is_typed u ≡ true → are_distinct (u.name ∷ map declared_name (map integer_object (variables u))) ≡ true
+names_are_distinct u typed =
+    ap (λ xs. are_distinct (u.name ∷ xs)) (declared_names (variables u))
+    ∙ and_from (not (is_among (variables u) u.name)) (are_distinct (variables u)) (name_is_apart u typed)
+    (are_distinct_names (variables u) (distinct_first_seen (source.code_names u.code)))
+
+-- each name of what is written for a unit is declared
+names_are_declared : (cs : List Comment) (first : ℕ) (u : SourceUnit)
+    → list_all (is_among (map declared_name (map integer_object (variables u)))) (p.code_names (written_unit cs first u).code) ≡ true
+names_are_declared cs first u =
+    ap (λ xs. list_all (is_among xs) (p.code_names (written_unit cs first u).code)) (declared_names (variables u))
+    ∙ ap (list_all (is_among (variables u))) (written_names (comments_from cs (first + 2)) (first + 1) [] u.code)
+    ∙ all_are_seen (source.code_names u.code)
+
+-- declared objects that are made of names have names
+declared_are_named : (xs : List (List ℕ)) → list_all is_name xs ≡ true → list_all (λ d. is_name (declared_name d)) (map integer_object xs) ≡ true
+declared_are_named xs e = list_all-map (λ d. is_name (declared_name d)) integer_object xs ∙ e
+
+-- ---- programs
+
+-- what is written for a unit can be written
+unit_is_writable : (cs : List Comment) (first : ℕ) (u : SourceUnit) → are_short_comments cs ≡ true → ShortUnit u → IsWritableUnit (written_unit cs first u)
+unit_is_writable cs first u short s =
+    let listed = s.listed (comments_from cs (first + 2)) (first + 1) [] (comments_from_are_short cs (first + 2) short) refl in
+    record {
+      head = are_writable (remarks_at cs first) (remarks_at_are_short cs first short);
+      named = s.named;
+      inner = are_writable (remarks_at cs (first + 1)) (remarks_at_are_short cs (first + 1) short);
+      declared = declared_are_named (variables u) (all_first is_name (source.code_names u.code) s.names);
+      code = listed.writable;
+      tail = are_writable (written_unit cs first u).tail listed.tail;
+    }
+
+-- the lines of what is written for one unit are short
+lines_are_short : (cs : List Comment) (u : SourceUnit) → are_short_comments cs ≡ true → ShortUnit u → list_all is_short (cut (printed (written cs (record { units = u ∷ [] })))) ≡ true
+lines_are_short cs u short s =
+    let last : List Remark = map remark_of (comments_from cs (sizes_of (u ∷ []))) in
+    let all = short_append (short_append (unit_lines cs 0 u short s) short_nothing)
+    (remarks_are_short last (remarks_of_comments (comments_from cs (sizes_of (u ∷ []))) (comments_from_are_short cs (sizes_of (u ∷ [])) short))) in
+    subst (λ t. list_all is_short (cut t) ≡ true) (append-nil (printed (written cs (record { units = u ∷ [] })))) (all.before [] refl)
+
+-- what is written for one unit can be written
+program_is_writable : (cs : List Comment) (u : SourceUnit) → are_short_comments cs ≡ true → ShortUnit u → IsWritable (written cs (record { units = u ∷ [] }))
+program_is_writable cs u short s = record {
+  units = (unit_is_writable cs 0 u short s, tt);
+  tail = are_writable (map remark_of (comments_from cs (sizes_of (u ∷ [])))) (remarks_of_comments (comments_from cs (sizes_of (u ∷ []))) (comments_from_are_short cs (sizes_of (u ∷ [])) short));
+  short = lines_are_short cs u short s;
+}
+
+-- what is written for one unit is proper
+program_is_proper : (cs : List Comment) (u : SourceUnit) → are_short_comments cs ≡ true → ShortUnit u → is_typed u ≡ true → IsProper (written cs (record { units = u ∷ [] }))
+program_is_proper cs u short s typed = record {
+  unit = written_unit cs 0 u;
+  whole = refl;
+  writable = program_is_writable cs u short s;
+  distinct = names_are_distinct u typed;
+  declared = names_are_declared cs 0 u;
+}
+
+-- what the law on the cards of a file says
+abbrev pub CardsSmall : Type 0
+CardsSmall = (file : ℕ) (bytes : List ℕ) → length bytes ≤ LARGEST_FILE → All (λ (card : Card). length card.text < 4294967295) (cards file bytes)
+
+-- what is written for a source that is converted is proper
+pub written_is_proper : CardOnly → CardsSmall → WrittenIsProper
+written_is_proper only small bytes q c =
+    let s = c.is_source in
+    let unit = unit_is_spelled only (cards 0 bytes) s.unit (small 0 bytes (lines_accepted bytes s.accepted).0) (accepted bytes c.accepted).statements s.spelled in
+    subst (λ (r : SourceProgram). IsProper (written (comments bytes) r)) (sym s.whole)
+    (program_is_proper (comments bytes) s.unit (comments_are_short bytes s.accepted) unit s.typed)

@@ -1,0 +1,143 @@
+-- What holds of a file of which nothing is refused.
+use Rattle.std.proofs.Common.{◌≡◌, ℕ, ◌+◌, ◌≤◌, Bool, true, false, not, cond, ◌&&◌, List, [], ◌∷◌, length, map, filter, Option, Some, None, IfSome, refl, sym, ap, ◌∙◌, subst, arith}
+use Rattle.std.specs.Prelude.{nat_lt, if◌then◌else◌}
+use Rattle.std.specs.List.{list_all}
+use Rattle.std.specs.Option.{option_and_then}
+use Rattle.std.proofs.lemmas.List.{append-nil}
+use Rattle.std.proofs.lemmas.List.Folds.{list_all-append}
+use Rattle.std.proofs.lemmas.Bool.{and_from, and_parts}
+use Rattle.text_base.specs.Lines.{lines}
+use Rattle.text_base.specs.Cards.{Card, cards}
+use Rattle.text_base.specs.LineRefusals.{too_large, passes_sum, line_refusals, card_refusals, files_refusals}
+use Rattle.text_base.specs.Trees.{Action}
+use Rattle.text_base.specs.declared.refusal.Place.{Place}
+use Rattle.text_base.specs.declared.refusal.Refusal.{Refusal}
+use Rattle.tree77.specs.Tree.{SourceUnit}
+use Rattle.tree77.specs.Spelling.{Statement, program, action, continue, end}
+use Rattle.text_base.specs.Names.{action_names}
+use Rattle.tree77.specs.Typing.{code_names, is_variable, is_typed}
+use Rattle.parse77.specs.Reading.{ReadCard, read_card, read_of, read_cards, Ended, join_code, read_code, unit_with, read_unit}
+use Rattle.project_set.specs.Refusals.{header_name, program_name, is_free_name, is_built_action, is_short, is_built_statement, is_built_as, is_built_card, not_built_at, statement_refusals, unit_refusals, first_of, refusals}
+
+-- ---- phases
+
+-- where the first phase that has any has none, no phase has any
+pub first_nothing : (a b : List Refusal) → first_of a b ≡ [] → (a ≡ []) × (b ≡ [])
+first_nothing [] b e = (refl, e)
+first_nothing (first ∷ rest) b e = absurd cc
+
+-- no phase has any
+nothing_first : (a b : List Refusal) → a ≡ [] → b ≡ [] → first_of a b ≡ []
+nothing_first a b e f = ap (λ xs. first_of xs b) e ∙ f
+
+-- the sum of one file is passed only by a file that is too large by itself
+passes_alone : (n : ℕ) → (not (nat_lt 67108864 0) && nat_lt 67108864 (0 + n)) ≡ true → nat_lt 16777216 n ≡ true
+passes_alone n e = grind (arith, e)
+
+-- what is refused of the lines of one file
+pub one_file : (bytes : List ℕ) → files_refusals 0 0 (bytes ∷ []) ≡ card_refusals 0 bytes
+one_file bytes = append-nil _ ∙ go (passes_sum 0 bytes) refl
+  where
+    go : (b : Bool) → passes_sum 0 bytes ≡ b → (if b then too_large 0 (length bytes) ∷ [] else card_refusals 0 bytes) ≡ card_refusals 0 bytes
+    go true is = sym (ap (λ b. if b then too_large 0 (length bytes) ∷ [] else line_refusals 0 1 None (lines bytes)) (passes_alone (length bytes) is))
+    go false is = refl
+
+-- where nothing is refused of the lines, the file isn't too large, and no line is refused
+pub lines_accepted : (bytes : List ℕ) → card_refusals 0 bytes ≡ [] → (length bytes ≤ 16777216) × (line_refusals 0 1 None (lines bytes) ≡ [])
+lines_accepted bytes e = go (nat_lt 16777216 (length bytes)) refl e
+  where
+    go : (b : Bool) → nat_lt 16777216 (length bytes) ≡ b → (if b then too_large 0 (length bytes) ∷ [] else line_refusals 0 1 None (lines bytes)) ≡ []
+        → (length bytes ≤ 16777216) × (line_refusals 0 1 None (lines bytes) ≡ [])
+    go true is e = absurd cc
+    go false is e = (grind (arith, is), e)
+
+-- in no phase is something refused of the file
+pub record Accepted (bytes : List ℕ) : Type 0 where
+  pub lines : card_refusals 0 bytes ≡ []
+  pub statements : statement_refusals (cards 0 bytes) ≡ []
+  pub unit : unit_refusals 0 (read_unit (read_cards 0 bytes)) ≡ []
+
+pub accepted : (bytes : List ℕ) → refusals bytes ≡ [] → Accepted bytes
+accepted bytes e =
+    let first = first_nothing (files_refusals 0 0 (bytes ∷ [])) (first_of (statement_refusals (cards 0 bytes)) (unit_refusals 0 (read_unit (read_cards 0 bytes)))) e in
+    let second = first_nothing (statement_refusals (cards 0 bytes)) (unit_refusals 0 (read_unit (read_cards 0 bytes))) first.1 in
+    record { lines = sym (one_file bytes) ∙ first.0; statements = second.0; unit = second.1 }
+
+pub nothing_refused : (bytes : List ℕ) → Accepted bytes → refusals bytes ≡ []
+nothing_refused bytes a = nothing_first _ _ (one_file bytes ∙ a.lines) (nothing_first _ _ a.statements a.unit)
+
+-- ---- statements
+
+-- where none is refused, all can be converted
+pub all_built : (unit : Option (List ℕ)) (cs : List Card) → map not_built_at (filter (λ card. not (is_built_card unit card)) cs) ≡ [] → list_all (is_built_card unit) cs ≡ true
+all_built unit [] e = refl
+all_built unit (card ∷ cs) e = go (is_built_card unit card) refl e (λ f. all_built unit cs f)
+  where
+    go : (b : Bool) → is_built_card unit card ≡ b
+        → map not_built_at (cond (not b) (card ∷ filter (λ c. not (is_built_card unit c)) cs) (filter (λ c. not (is_built_card unit c)) cs)) ≡ []
+        → (map not_built_at (filter (λ c. not (is_built_card unit c)) cs) ≡ [] → list_all (is_built_card unit) cs ≡ true)
+        → list_all (is_built_card unit) (card ∷ cs) ≡ true
+    go true e is more = and_from (is_built_card unit card) (list_all (is_built_card unit) cs) e (more is)
+    go false e is more = absurd cc
+
+-- the parts of what can be converted of a statement
+pub record IsBuiltAction (unit : Option (List ℕ)) (a : Action) : Type 0 where
+  pub built : is_built_action a ≡ true
+  pub free : list_all (is_free_name unit) (action_names a) ≡ true
+  pub short : is_short a ≡ true
+
+pub built_action : (unit : Option (List ℕ)) (a : Action) → is_built_statement unit (action a) ≡ true → IsBuiltAction unit a
+built_action unit a e =
+    let first = and_parts (is_built_action a) (list_all (is_free_name unit) (action_names a) && is_short a) e in
+    let second = and_parts (list_all (is_free_name unit) (action_names a)) (is_short a) first.1 in
+    record { built = first.0; free = second.0; short = second.1 }
+
+-- ---- the program
+
+-- the names of a list that is read are integer variables of the program
+abbrev IsTypedList : List ℕ → Option Ended → Type 0
+IsTypedList unit ended = IfSome ended (λ r. list_all (is_variable unit) (code_names r.0) ≡ true)
+
+-- one statement more that can be converted
+typed_join : (unit : List ℕ) (here : Place) (s : Statement) (rest : List ReadCard) (more : Option Ended)
+    → is_built_as (Some unit) (Some s) ≡ true → IsTypedList unit more → IsTypedList unit (join_code here s rest more)
+typed_join unit here (program x) rest more built typed = tt
+typed_join unit here (action a) rest None built typed = tt
+typed_join unit here (action a) rest (Some r) built typed =
+    list_all-append (is_variable unit) (action_names a) (code_names r.0) ∙ and_from _ _ (built_action (Some unit) a built).free typed
+typed_join unit here continue rest None built typed = tt
+typed_join unit here continue rest (Some r) built typed = typed
+typed_join unit here end [] more built typed = refl
+typed_join unit here end (next ∷ rest) more built typed = tt
+
+list_is_typed : (unit : List ℕ) (cs : List Card) → list_all (is_built_card (Some unit)) cs ≡ true → IsTypedList unit (read_code (map read_of cs))
+list_is_typed unit [] built = tt
+list_is_typed unit (card ∷ rest) built =
+    let b = and_parts (is_built_card (Some unit) card) (list_all (is_built_card (Some unit)) rest) built in
+    go (read_card card) b.0 (list_is_typed unit rest b.1)
+  where
+    go : (o : Option Statement) → is_built_as (Some unit) o ≡ true → IsTypedList unit (read_code (map read_of rest))
+        → IsTypedList unit (option_and_then (λ s. join_code card.place s (map read_of rest) (read_code (map read_of rest))) o)
+    go None built typed = tt
+    go (Some s) built typed = typed_join unit card.place s (map read_of rest) (read_code (map read_of rest)) built typed
+
+-- the first statement of a program gives its name
+typed_unit_with : (here : Place) (rest : List Card) (o : Option Statement) → list_all (is_built_card (option_and_then header_name o)) rest ≡ true
+    → IfSome (option_and_then (λ s. unit_with here s (read_code (map read_of rest))) o) (λ u. is_typed u ≡ true)
+typed_unit_with here rest None built = tt
+typed_unit_with here rest (Some (program x)) built = go (read_code (map read_of rest)) (list_is_typed x rest built)
+  where
+    go : (ended : Option Ended) → IsTypedList x ended → IfSome (unit_with here (program x) ended) (λ u. is_typed u ≡ true)
+    go None typed = tt
+    go (Some r) typed = typed
+typed_unit_with here rest (Some (action a)) built = tt
+typed_unit_with here rest (Some continue) built = tt
+typed_unit_with here rest (Some end) built = tt
+
+-- a program whose statements can all be converted has integer variables alone
+pub unit_is_typed : (cs : List Card) (u : SourceUnit) → statement_refusals cs ≡ [] → read_unit (map read_of cs) ≡ Some u → is_typed u ≡ true
+unit_is_typed [] u built e = absurd cc
+unit_is_typed (card ∷ rest) u built e =
+    let name = program_name (map read_of (card ∷ rest)) in
+    let b = and_parts (is_built_card name card) (list_all (is_built_card name) rest) (all_built name (card ∷ rest) built) in
+    subst (λ o. IfSome o (λ v. is_typed v ≡ true)) e (typed_unit_with card.place rest (read_card card) b.1)

@@ -1,0 +1,151 @@
+-- What a card spells can be written where it is converted: it has no LF, and its names are names.
+use Rattle.std.proofs.Common.{◌≡◌, ℕ, ◌+◌, ◌%◌, ◌^◌, ◌<◌, pos, negsuc, true, ◌&&◌, List, [], ◌∷◌, ◌++◌, codes, refl, sym, ◌∙◌, subst, arith}
+use Rattle.std.specs.Fmt.{decimal}
+use Rattle.std.specs.List.{list_all}
+use Rattle.std.proofs.lemmas.Fmt.{decimal_by_steps}
+use Rattle.std.proofs.lemmas.List.Folds.{list_all-append}
+use Rattle.std.proofs.lemmas.Bool.{and_from, and_parts, leb-true}
+use Rattle.text_base.specs.Chars.{is_name}
+use Rattle.text_base.specs.Names.{expr_names, action_names}
+use Rattle.text_base.specs.Pieces.{Piece}
+use Rattle.text_base.specs.Trees.{UnaryOp, plus, minus, negation, BinaryOp, Expr, int, bool, text, name, call, substring, unary, binary, paren, Action, assign, stop}
+use Rattle.text_base.specs.Trees as t
+use Rattle.text_base.specs.declared.limits.TheConstants.{GREATEST_INTEGER}
+use Rattle.tree77.specs.Spelling.{SpellsStatement, spells_program, spells_assign, spells_continue, spells_stop, spells_end, action, program}
+use Rattle.tree90.specs.Printed.{sign_text, operator_text, expr_text, action_text}
+use Rattle.tree90.specs.Proper.{is_sign, is_additive, IsOperand, operand_int, operand_name, IsSum, only_operand, signed_operand, sum_of, IsWritableAction, writable_assign, writable_stop}
+use Rattle.project_set.specs.Refusals.{is_built_operand, is_built, is_built_action}
+use Rattle.project_set.proofs.OperandLemmas.{is_sound, expression_is_sound}
+use Rattle.project_set.proofs.ShortPieces.{has_no_feed, no_feed_append, no_feed_name}
+
+-- a number in decimal has no LF
+no_feed_decimal : (n : ℕ) → n < 2 ^ 64 → has_no_feed (decimal n) ≡ true
+no_feed_decimal = decimal_by_steps (λ n text. has_no_feed text ≡ true) (λ n lt. digit n) (λ n text le e. no_feed_append text ((48 + n % 10) ∷ []) e (digit (n % 10)))
+  where
+    digit : (d : ℕ) → has_no_feed ((48 + d) ∷ []) ≡ true
+    digit d = grind arith
+
+-- a sign is no LF
+no_feed_sign : (op : UnaryOp) → has_no_feed (sign_text op) ≡ true
+no_feed_sign plus = refl
+no_feed_sign minus = refl
+no_feed_sign negation = refl
+
+-- an operator is no LF
+no_feed_operator : (op : BinaryOp) → has_no_feed (operator_text op) ≡ true
+no_feed_operator t.power = refl
+no_feed_operator t.times = refl
+no_feed_operator t.over = refl
+no_feed_operator t.add = refl
+no_feed_operator t.subtract = refl
+no_feed_operator t.concat = refl
+no_feed_operator t.less = refl
+no_feed_operator t.less_equal = refl
+no_feed_operator t.equal = refl
+no_feed_operator t.not_equal = refl
+no_feed_operator t.greater = refl
+no_feed_operator t.greater_equal = refl
+no_feed_operator t.conjunction = refl
+no_feed_operator t.disjunction = refl
+no_feed_operator t.equivalence = refl
+no_feed_operator t.nonequivalence = refl
+
+-- a sum has no LF where its operands have none
+no_feed_sum : (op : BinaryOp) (s t : List ℕ) → has_no_feed s ≡ true → has_no_feed t ≡ true → has_no_feed (s ++ codes " " ++ operator_text op ++ codes " " ++ t) ≡ true
+no_feed_sum op s t e f =
+    no_feed_append (s ++ codes " " ++ operator_text op ++ codes " ") t
+    (no_feed_append (s ++ codes " " ++ operator_text op) (codes " ")
+    (no_feed_append (s ++ codes " ") (operator_text op) (no_feed_append s (codes " ") e refl) (no_feed_operator op))
+    refl)
+    f
+
+-- ---- expressions
+
+-- an expression that can be written, whose text has no LF
+record PlainExpr (e : Expr) : Type 0 where
+  plain : has_no_feed (expr_text e) ≡ true
+  named : list_all is_name (expr_names e) ≡ true
+  sum : IsSum e
+
+-- an operand that can be written, whose text has no LF
+record PlainOperand (e : Expr) : Type 0 where
+  plain : has_no_feed (expr_text e) ≡ true
+  named : list_all is_name (expr_names e) ≡ true
+  operand : IsOperand e
+
+operand_is_plain : (e : Expr) → is_built_operand e ≡ true → is_sound e ≡ true → PlainOperand e
+operand_is_plain (int (pos v)) built sound =
+    let within = leb-true v GREATEST_INTEGER sound in
+    record { plain = no_feed_decimal v (omega (arith, within)); named = refl; operand = operand_int within }
+operand_is_plain (int (negsuc v)) built sound = absurd cc
+operand_is_plain (name x) built sound = record { plain = no_feed_name x sound; named = and_from (is_name x) true sound refl; operand = operand_name sound }
+operand_is_plain (bool b) built sound = absurd cc
+operand_is_plain (text cs) built sound = absurd cc
+operand_is_plain (call f xs) built sound = absurd cc
+operand_is_plain (substring a from to) built sound = absurd cc
+operand_is_plain (unary op a) built sound = absurd cc
+operand_is_plain (binary op a b) built sound = absurd cc
+operand_is_plain (paren a) built sound = absurd cc
+
+only_one : (e : Expr) → is_built_operand e ≡ true → is_sound e ≡ true → PlainExpr e
+only_one e built sound = let o = operand_is_plain e built sound in record { plain = o.plain; named = o.named; sum = only_operand o.operand }
+
+-- what is converted can be written where its operands can
+expr_is_plain : (e : Expr) → is_built e ≡ true → is_sound e ≡ true → PlainExpr e
+expr_is_plain (unary op a) built sound =
+    let b = and_parts (is_sign op) (is_built_operand a) built in
+    let o = operand_is_plain a b.1 sound in
+    record { plain = no_feed_append (sign_text op) (expr_text a) (no_feed_sign op) o.plain; named = o.named; sum = signed_operand b.0 o.operand }
+expr_is_plain (binary op a b) built sound =
+    let operator = and_parts (is_additive op) (is_built a && is_built_operand b) built in
+    let parts = and_parts (is_built a) (is_built_operand b) operator.1 in
+    let both = and_parts (is_sound a) (is_sound b) sound in
+    let l = expr_is_plain a parts.0 both.0 in
+    let r = operand_is_plain b parts.1 both.1 in
+    record {
+      plain = no_feed_sum op (expr_text a) (expr_text b) l.plain r.plain;
+      named = list_all-append is_name (expr_names a) (expr_names b) ∙ and_from _ _ l.named r.named;
+      sum = sum_of operator.0 l.sum r.operand;
+    }
+expr_is_plain (int v) built sound = only_one (int v) built sound
+expr_is_plain (name x) built sound = only_one (name x) built sound
+expr_is_plain (bool b) built sound = absurd cc
+expr_is_plain (text cs) built sound = absurd cc
+expr_is_plain (call f xs) built sound = absurd cc
+expr_is_plain (substring a from to) built sound = absurd cc
+expr_is_plain (paren a) built sound = absurd cc
+
+-- ---- statements
+
+-- a statement that can be written, whose text has no LF
+pub record PlainAction (a : Action) : Type 0 where
+  pub plain : has_no_feed (action_text a) ≡ true
+  pub named : list_all is_name (action_names a) ≡ true
+  pub writable : IsWritableAction a
+
+assign_is_plain : (x : List ℕ) (e : Expr) → is_name x ≡ true → PlainExpr e → PlainAction (assign (name x) e)
+assign_is_plain x e named value = record {
+  plain = no_feed_append (x ++ codes " = ") (expr_text e) (no_feed_append x (codes " = ") (no_feed_name x named) refl) value.plain;
+  named = and_from (is_name x) (list_all is_name (expr_names e)) named value.named;
+  writable = writable_assign named value.sum;
+}
+
+-- a statement that is spelled and converted can be written
+pub action_is_plain : (pieces : List Piece) (a : Action) → SpellsStatement pieces (action a) → is_built_action a ≡ true → PlainAction a
+action_is_plain pieces a (spells_program kind whole named is) built = absurd cc
+action_is_plain pieces a (spells_assign {x = x} {value = value} {e = e} kind whole named spelled is) built =
+    let same : a ≡ assign (name x) e = cc in
+    let value_built : is_built e ≡ true = subst (λ b. is_built_action b ≡ true) same built in
+    subst PlainAction (sym same) (assign_is_plain x e named (expr_is_plain e value_built (expression_is_sound value spelled.lexemes e spelled.wide)))
+action_is_plain pieces a (spells_continue kind whole is) built = absurd cc
+action_is_plain pieces a (spells_stop kind whole is) built =
+    let same : a ≡ stop = cc in subst PlainAction (sym same) (record { plain = refl; named = refl; writable = writable_stop })
+action_is_plain pieces a (spells_end kind whole is) built = absurd cc
+
+-- the name of a unit is a name
+pub header_is_named : (pieces : List Piece) (x : List ℕ) → SpellsStatement pieces (program x) → is_name x ≡ true
+header_is_named pieces x (spells_program {x = y} kind whole named is) = let same : x ≡ y = cc in subst (λ z. is_name z ≡ true) (sym same) named
+header_is_named pieces x (spells_assign kind whole named value is) = absurd cc
+header_is_named pieces x (spells_continue kind whole is) = absurd cc
+header_is_named pieces x (spells_stop kind whole is) = absurd cc
+header_is_named pieces x (spells_end kind whole is) = absurd cc

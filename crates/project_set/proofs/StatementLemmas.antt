@@ -1,0 +1,84 @@
+-- The refusals of the statements of a file, one statement after another.
+use Rattle.std.proofs.Common.{◌≡◌, ℕ, ◌+◌, ◌<◌, Bool, true, false, not, cond, List, [], ◌∷◌, ◌++◌, length, map, filter, take, get_or, min, Option, Some, sym, ap, ◌∙◌, arith}
+use Rattle.std.specs.Prelude.{slice_get}
+use Rattle.std.specs.Option.{option_map}
+use Rattle.std.proofs.Math.Seq.{take-length}
+use Rattle.std.proofs.lemmas.List.{take_more, map-append, length-map, append-nil}
+use Rattle.std.proofs.lemmas.List.Elements.{filter-append}
+use Rattle.std.proofs.lemmas.Option.{slice_get-map, slice_get-get_or}
+use Rattle.text_base.specs.Cards as source
+use Rattle.text_base.specs.declared.refusal.Refusal.{Refusal}
+use Rattle.card_reader.specs.Deck.{card_of}
+use Rattle.card_reader.specs.declared.card.Card.{Card}
+use Rattle.parse77.specs.Reading.{ReadCard, read_card, read_of}
+use Rattle.parse77.specs.Statement.{statement_of, card_read}
+use Rattle.parse77.specs.declared.statement.ReadStatement.{ReadStatement}
+use Rattle.project_set.specs.Refusals.{program_name, is_built_as, is_built_card, not_built_at, statement_refusals}
+
+-- the refusals of some statements of a program of this name
+abbrev refused_of : Option (List ℕ) → List source.Card → List Refusal
+refused_of unit cards = map not_built_at (filter (λ card. not (is_built_card unit card)) cards)
+
+-- the refusals of the first statements of a file
+abbrev pub so_far : List Card → ℕ → List Refusal
+so_far cards n = refused_of (program_name (map read_of (map card_of cards))) (map card_of (take n cards))
+
+-- the refusals of one statement
+one_of : (unit : Option (List ℕ)) (card : source.Card) (b : Bool) → is_built_card unit card ≡ b → refused_of unit (card ∷ []) ≡ cond b [] (not_built_at card ∷ [])
+one_of unit card true is = ap (λ b. map not_built_at (cond (not b) (card ∷ []) [])) is
+one_of unit card false is = ap (λ b. map not_built_at (cond (not b) (card ∷ []) [])) is
+
+more_of : (unit : Option (List ℕ)) (cards : List source.Card) (card : source.Card) → refused_of unit (cards ++ card ∷ []) ≡ refused_of unit cards ++ refused_of unit (card ∷ [])
+more_of unit cards card =
+    let passes : source.Card → Bool = λ c. not (is_built_card unit c) in
+    ap (map not_built_at) (filter-append passes cards (card ∷ [])) ∙ map-append not_built_at (filter passes cards) (filter passes (card ∷ []))
+
+module _ (cards : List Card) (statements : List ReadStatement) (same : map card_read statements ≡ map read_of (map card_of cards)) where
+  -- what was read of a statement is what it spells
+  spelled_at : (n : ℕ) (card : Card) (read : ReadStatement) → n < length cards → n < length statements → card ≡ get_or cards n card → read ≡ get_or statements n read
+      → option_map statement_of read.statement ≡ read_card (card_of card)
+  spelled_at n card read lt lt2 here there =
+      let right : slice_get cards n ≡ Some card = slice_get-get_or cards n card lt ∙ ap Some (sym here) in
+      let left : slice_get statements n ≡ Some read = slice_get-get_or statements n read lt2 ∙ ap Some (sym there) in
+      let both : ◌≡◌ {A = Option ReadCard} (Some (card_read read)) (Some (read_of (card_of card))) =
+      sym (slice_get-map card_read statements n ∙ ap (option_map card_read) left)
+      ∙ ap (λ l. slice_get l n) same
+      ∙ slice_get-map read_of (map card_of cards) n
+      ∙ ap (option_map read_of) (slice_get-map card_of cards n ∙ ap (option_map card_of) right) in
+      let whole : card_read read ≡ read_of (card_of card) = cc in
+      ap (λ (r : ReadCard). r.spelled) whole
+
+  module _ (n m : ℕ) (card : Card) (read : ReadStatement) (unit : Option (List ℕ)) (built : Bool)
+      (next : m ≡ n + 1) (lt : n < length cards) (lt2 : n < length statements) (here : card ≡ get_or cards n card) (there : read ≡ get_or statements n read)
+      (named : unit ≡ program_name (map read_of (map card_of cards))) (asked : built ≡ is_built_as unit (option_map statement_of read.statement)) where
+    answered : is_built_card (program_name (map read_of (map card_of cards))) (card_of card) ≡ built
+    answered = sym (asked ∙ ap (is_built_as unit) (spelled_at n card read lt lt2 here there) ∙ ap (λ u. is_built_card u (card_of card)) named)
+
+    so_far_more : so_far cards m ≡ so_far cards n ++ refused_of (program_name (map read_of (map card_of cards))) (card_of card ∷ [])
+    so_far_more =
+        let unit = program_name (map read_of (map card_of cards)) in
+        ap (so_far cards) next
+        ∙ ap (λ l. refused_of unit (map card_of l)) (take_more cards n card lt ∙ ap (λ x. take n cards ++ x ∷ []) (sym here))
+        ∙ ap (refused_of unit) (map-append card_of (take n cards) (card ∷ []))
+        ∙ more_of unit (map card_of (take n cards)) (card_of card)
+
+    -- a statement that is converted is not refused
+    pub not_refused : (list : List Refusal) → built ≡ true → list ≡ so_far cards n → list ≡ so_far cards m
+    not_refused list is before =
+        before ∙ sym (append-nil (so_far cards n))
+        ∙ ap (λ l. so_far cards n ++ l) (sym (one_of (program_name (map read_of (map card_of cards))) (card_of card) true (answered ∙ is)))
+        ∙ sym so_far_more
+
+    -- another one is
+    pub one_refused : (list new : List Refusal) (refusal : Refusal) → built ≡ false → refusal ≡ not_built_at (card_of card) → new ≡ list ++ refusal ∷ [] → list ≡ so_far cards n → new ≡ so_far cards m
+    one_refused list new refusal is it pushed before =
+        pushed ∙ ap (λ l. l ++ refusal ∷ []) before ∙ ap (λ r. so_far cards n ++ r ∷ []) it
+        ∙ ap (λ l. so_far cards n ++ l) (sym (one_of (program_name (map read_of (map card_of cards))) (card_of card) false (answered ∙ is)))
+        ∙ sym so_far_more
+
+  -- all statements were asked
+  pub all_asked : (n : ℕ) (list : List Refusal) → n ≡ min (length cards) (length statements) → list ≡ so_far cards n → list ≡ statement_refusals (map card_of cards)
+  all_asked n list last before =
+      let lengths : length statements ≡ length cards = sym (length-map statements card_read) ∙ ap length same ∙ length-map (map card_of cards) read_of ∙ length-map cards card_of in
+      let all : n ≡ length cards = omega (arith, last, lengths) in
+      before ∙ ap (so_far cards) all ∙ ap (λ l. refused_of (program_name (map read_of (map card_of cards))) (map card_of l)) (take-length cards)

@@ -1,0 +1,10 @@
+pub mod MapText
+pub mod Match
+pub mod Rewrite
+pub mod Comments
+pub mod Positions
+pub mod Report
+pub mod Variables
+pub mod Refusals
+pub mod Conversion
+pub mod Laws

@@ -1,0 +1,100 @@
+-- What is refused of a file.
+use Rattle.std.specs.Prelude.{ℕ, ◌+◌, Bool, true, false, not, ◌&&◌, nat_le, List, [], ◌∷◌, length, take, map, filter, Option, Some, None}
+use Rattle.std.specs.List.{list_all}
+use Rattle.std.specs.Option.{option_and_then}
+use Rattle.text_base.specs.Cards.{Card, cards}
+use Rattle.text_base.specs.Kept.{read_characters}
+use Rattle.text_base.specs.LineRefusals.{files_refusals}
+use Rattle.text_base.specs.Names.{action_names}
+use Rattle.text_base.specs.Refusing.{not_built}
+use Rattle.text_base.specs.Trees.{Expr, int, name, unary, binary, Action, assign, stop}
+use Rattle.text_base.specs.declared.limits.TheConstants.{LONGEST_WRITTEN, MOST_SHOWN}
+use Rattle.text_base.specs.declared.refusal.Refusal.{Refusal}
+use Rattle.text_base.specs.declared.refusal.Cause.TheVariants.{NotBuilt}
+use Rattle.tree77.specs.Tree.{SourceUnit}
+use Rattle.tree77.specs.Spelling.{Statement, program, action, continue, end}
+use Rattle.tree77.specs.Typing.{is_integer_name, is_variable}
+use Rattle.parse77.specs.Reading.{ReadCard, read_card, read_cards, read_of, read_unit}
+use Rattle.tree90.specs.Tree.{simple}
+use Rattle.tree90.specs.Printed.{stmt_text}
+use Rattle.tree90.specs.Proper.{is_sign, is_additive}
+
+-- ---- one statement
+
+-- the name that a PROGRAM statement gives
+abbrev pub header_name : Statement → Option (List ℕ)
+header_name (program x) = Some x
+header_name (action a) = None
+header_name continue = None
+header_name end = None
+
+-- the program's name, where the first statement of the file gives one
+abbrev pub program_name : List ReadCard → Option (List ℕ)
+program_name [] = None
+program_name (read ∷ reads) = option_and_then header_name read.spelled
+
+-- a name that an integer variable may have: it begins with a letter from I to N, and isn't the program's name
+abbrev pub is_free_name : Option (List ℕ) → List ℕ → Bool
+is_free_name None x = is_integer_name x
+is_free_name (Some unit) x = is_variable unit x
+
+-- a constant or a name
+abbrev pub is_built_operand : Expr → Bool
+is_built_operand (int v) = true
+is_built_operand (name x) = true
+is_built_operand _ = false
+
+-- the expressions that are converted: constants and names with + and - between them, grouped from the left, and a sign at
+-- most before the first
+abbrev pub is_built : Expr → Bool
+is_built (unary op a) = is_sign op && is_built_operand a
+is_built (binary op a b) = is_additive op && (is_built a && is_built_operand b)
+is_built e = is_built_operand e
+
+abbrev pub is_built_action : Action → Bool
+is_built_action (assign d e) = is_built e
+is_built_action stop = true
+
+-- the line that is written for the statement has at most 132 characters, and LF
+abbrev pub is_short : Action → Bool
+is_short a = nat_le (length (stmt_text 1 (simple a))) (LONGEST_WRITTEN + 1)
+
+-- what can be converted: the expression of a statement is such a one, its variables are integers, and its line fits
+abbrev pub is_built_statement : Option (List ℕ) → Statement → Bool
+is_built_statement unit (program x) = true
+is_built_statement unit (action a) = is_built_action a && (list_all (is_free_name unit) (action_names a) && is_short a)
+is_built_statement unit continue = true
+is_built_statement unit end = true
+
+-- a statement without a label that has a spelling, and can be converted in the program of this name
+abbrev pub is_built_as : Option (List ℕ) → Option Statement → Bool
+is_built_as unit None = false
+is_built_as unit (Some s) = is_built_statement unit s
+
+abbrev pub is_built_card : Option (List ℕ) → Card → Bool
+is_built_card unit card = is_built_as unit (read_card card)
+
+-- the refusal of a statement that isn't converted yet; its first 12 characters are named
+abbrev pub not_built_at : Card → Refusal
+not_built_at card = record { place = card.place; cause = NotBuilt; name = take MOST_SHOWN (read_characters card.text card.kept) }
+
+-- ---- all statements
+
+-- the refusals of the statements that aren't converted yet
+abbrev pub statement_refusals : List Card → List Refusal
+statement_refusals cards = map not_built_at (filter (λ card. not (is_built_card (program_name (map read_of cards)) card)) cards)
+
+-- the refusal of a file whose statements aren't one main program
+abbrev pub unit_refusals : ℕ → Option SourceUnit → List Refusal
+unit_refusals file None = not_built file ∷ []
+unit_refusals file (Some unit) = []
+
+-- those of the first phase that has any
+abbrev pub first_of : List Refusal → List Refusal → List Refusal
+first_of [] later = later
+first_of (first ∷ rest) later = first ∷ rest
+
+-- What is refused of a file: of its size and its lines; where there is nothing, of its statements; and where there is
+-- nothing, of them as a program.
+abbrev pub refusals : List ℕ → List Refusal
+refusals bytes = first_of (files_refusals 0 0 (bytes ∷ [])) (first_of (statement_refusals (cards 0 bytes)) (unit_refusals 0 (read_unit (read_cards 0 bytes))))

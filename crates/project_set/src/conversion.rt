@@ -1,0 +1,167 @@
+// The conversion of one file.
+ghost use Rattle.std.specs.Prelude.{◌≡◌, ◌≤◌, ◌+◌, ◌-◌, ◌∷◌, [], List, length, map, IfOk, OnOk};
+ghost use Rattle.text_base.specs.Cards.{Comment, cards, comments};
+ghost use Rattle.text_base.specs.Lines.{cut_lines};
+ghost use Rattle.text_base.specs.LineRefusals.{card_refusals};
+ghost use Rattle.card_reader.specs.Deck.{card_of, deck_comments};
+ghost use Rattle.tree77.specs.Plain.{unit_of};
+ghost use Rattle.parse77.specs.Reading.{read_cards};
+ghost use Rattle.parse77.specs.Statement.{card_read};
+ghost use Rattle.project_set.specs.Comments.{ArePlaced};
+ghost use Rattle.tree90.specs.Printed.{printed};
+ghost use Rattle.project_set.specs.Conversion.{IsConvertible, IsConversion, RefusesWith, program_map};
+ghost use Rattle.project_set.specs.Report.{report_text};
+ghost use Rattle.project_set.specs.Refusals.{statement_refusals};
+ghost use Rattle.project_set.specs.Rewrite.{written};
+
+use crate::comments::Comments;
+use crate::map::map_of;
+use crate::refusals::statement_refusals;
+use crate::report::{Counts, report};
+use crate::rewrite::rewritten;
+use crate::variables::variables;
+use card_reader::{CardsError, Deck, read_cards};
+use free_printer::print;
+use parse77::{Statements, main_program, read_statements, statements_are_spelled};
+use std::alloc::{AllocError, Global};
+use text_base::{Bytes, Refusals, not_built};
+use thiserror::Error;
+use tree77::Unit77;
+
+/// The texts that are written for one file.
+#[derive(Debug, Drop)]
+pub struct Outputs {
+    pub text: Bytes,
+    pub map: Bytes,
+    pub report: Bytes,
+}
+
+/// Why a file isn't converted.
+#[derive(Debug, Drop, Error)]
+pub enum ConvertError {
+    /// The file is refused. The list says where and why.
+    #[error("the file is refused")]
+    Refused(Refusals),
+    /// Want of memory. Nothing is known of the file.
+    #[error("memory is wanting")]
+    Memory,
+}
+
+impl From<AllocError> for ConvertError {
+    ghost use Rattle.project_set.specs.declared.conversion.ConvertError.TheVariants.{Memory};
+
+    ghost from_gives = { λ _ e. e ≡ Memory };
+
+    fn from(_: AllocError) -> Self {
+        ConvertError::Memory
+    }
+}
+
+// The statements and the comments of a file of which no line is refused.
+fn read_deck(alloc: Global, bytes: &[u8]) -> Result<Deck, ConvertError>
+    ensures cards { IfOk result (λ deck. map card_of deck.statements ≡ cards 0 bytes.now) }
+    ensures comments { IfOk result (λ deck. deck_comments deck ≡ comments bytes.now) }
+    ensures cut { IfOk result (λ deck. deck.cut ≡ cut_lines bytes.now) }
+    ensures accepted { OnOk result (card_refusals 0 bytes.now ≡ []) }
+    ensures refused { RefusesWith bytes.now result }
+{
+    match read_cards(alloc, 0, bytes) {
+        Ok(deck) => Ok(deck),
+        Err(CardsError::Refused(refusals)) => Err(ConvertError::Refused(refusals)),
+        Err(CardsError::Memory) => Err(ConvertError::Memory),
+    }
+}
+
+/// What is kept of a file of which no line and no statement is refused: its statements as they were read, its comments, and
+/// how many of its lines are cut off at column 72.
+#[derive(Drop)]
+struct Parts {
+    statements: Statements,
+    comments: Comments,
+    cut: u32,
+}
+
+// The parts of a file, of which the characters of the statements are kept no longer. What is refused of its lines or of its
+// statements is refused.
+fn read_parts(alloc: Global, bytes: &[u8]) -> Result<Parts, ConvertError>
+    ensures statements { IfOk result (λ parts. map card_read parts.statements ≡ read_cards 0 bytes.now) }
+    ensures comments { IfOk result (λ parts. 2 ≤ length (cards 0 bytes.now) → ArePlaced (comments bytes.now) (length (cards 0 bytes.now) - 1) parts.comments) }
+    ensures cut { IfOk result (λ parts. parts.cut ≡ cut_lines bytes.now) }
+    ensures accepted { OnOk result (card_refusals 0 bytes.now ≡ []) }
+    ensures built { OnOk result (statement_refusals (cards 0 bytes.now) ≡ []) }
+    ensures refused { RefusesWith bytes.now result }
+{
+    let deck = read_deck(alloc, bytes)?;
+    let statements = read_statements(alloc, &deck)?;
+    let refusals = statement_refusals(alloc, deck.statements(), statements.as_slice())?;
+    if !refusals.is_empty() {
+        return Err(ConvertError::Refused(refusals));
+    }
+    let comments = Comments::of(alloc, &deck)?;
+    Ok(Parts {
+        statements,
+        comments,
+        cut: deck.cut(),
+    })
+}
+
+/// A program of one unit, with the comments of its file, and how many lines of it are cut off at column 72.
+#[derive(Drop)]
+struct Source {
+    unit: Unit77,
+    comments: Comments,
+    cut: u32,
+}
+
+// The program that the bytes are the source of, with their comments. What is refused is refused phase by phase: of the
+// lines, of the statements, and of the statements as a program.
+fn read_source(alloc: Global, bytes: &[u8]) -> Result<Source, ConvertError>
+    ensures found { IfOk result (λ s. IsConvertible bytes.now (record { units = unit_of s.unit ∷ [] })) }
+    ensures counted { IfOk result (λ s. length s.comments.before ≡ length s.unit.items + 1) }
+    ensures comments { IfOk result (λ s. ArePlaced (comments bytes.now) (length s.comments.before) s.comments) }
+    ensures cut { IfOk result (λ s. s.cut ≡ cut_lines bytes.now) }
+    ensures refused { RefusesWith bytes.now result }
+{
+    statements_are_spelled();
+    let parts = read_parts(alloc, bytes)?;
+    let Some(unit) = main_program(alloc, parts.statements)? else {
+        return Err(ConvertError::Refused(not_built(alloc, 0)?));
+    };
+    Ok(Source {
+        unit,
+        comments: parts.comments,
+        cut: parts.cut,
+    })
+}
+
+// The texts of a program. Its expressions are moved to the written program.
+fn written_texts(alloc: Global, source: Source) -> Result<Outputs, AllocError>
+    requires { length source.comments.before ≡ length source.unit.items + 1 }
+    ensures text { IfOk result (λ o. (cs : List Comment) → ArePlaced cs (length source.comments.before) source.comments → o.text ≡ printed (written cs (record { units = unit_of source.unit ∷ [] }))) }
+    ensures map { IfOk result (λ o. o.map ≡ program_map (record { units = unit_of source.unit ∷ [] })) }
+    ensures report { IfOk result (λ o. o.report ≡ report_text (record { units = 1; webs = 0; kept = 0; arrays = 0; cut = source.cut })) }
+{
+    let Source {
+        unit,
+        comments,
+        cut,
+    } = source;
+    let variables = variables(alloc, &unit)?;
+    let map = map_of(alloc, &unit.name, variables.as_slice())?;
+    let program = rewritten(alloc, unit, variables.as_slice(), comments)?;
+    Ok(Outputs {
+        text: print(alloc, &program)?,
+        map,
+        report: report(alloc, &Counts::of(1, cut))?,
+    })
+}
+
+/// What the file is converted to. Where something is refused of its bytes the list has all of it, and where nothing is
+/// they are the source of the program that is converted.
+pub fn convert(alloc: Global, bytes: &[u8]) -> Result<Outputs, ConvertError>
+    ensures converts { IfOk result (λ o. IsConversion bytes.now o.text o.map o.report) }
+    ensures refused { RefusesWith bytes.now result }
+{
+    let source = read_source(alloc, bytes)?;
+    Ok(written_texts(alloc, source)?)
+}

@@ -1,0 +1,137 @@
+// The variables of a unit, by first appearance.
+ghost use Rattle.std.specs.Prelude.{◌≡◌, map, flat_map, IfOk, OnOk};
+ghost use Rattle.std.specs.Option.{option_map};
+ghost use Rattle.text_base.specs.Names.{expr_names, exprs_names, bound_names};
+ghost use Rattle.expr_tree.specs.Plain.{expr_of, exprs_of, bound_of};
+ghost use Rattle.tree77.specs.Typing.{variables, stmt_names, code_names};
+ghost use Rattle.tree77.specs.Plain.{stmt_of_simple, stmt_of, code_of, unit_of};
+ghost use Rattle.project_set.specs.Variables.{with_name, with_names, IsInStep};
+
+use indexmap::IndexSet;
+use sqlite_items::{Boxed, Items};
+use std::alloc::{AllocError, Global};
+use text_base::Name;
+use tree77::{Body77, Expr, Item77, Stmt77, Unit77};
+
+/// Names, each once, in the order in which they were added first. A set of their characters finds them again.
+#[derive(Drop)]
+struct Names<'a> {
+    characters: IndexSet<&'a [u8]>,
+    items: Items<Name>,
+}
+
+/// The names of the unit's statements, each once, in the order of first appearance. It fails for want of
+/// memory alone.
+#[tactic(auto, using(crate::proofs::NameLemmas::seen))]
+pub fn variables(alloc: Global, unit: &Unit77) -> Result<Items<Name>, AllocError>
+    ensures { IfOk result (λ names. names ≡ variables (unit_of unit.now)) }
+{
+    let mut names = Names {
+        characters: IndexSet::new(alloc),
+        items: Items::new(alloc),
+    };
+    add_items(&mut names, unit.items.as_slice())?;
+    Ok(names.items)
+}
+
+fn add_items<'a>(names: &mut Names<'a>, items: &'a [Item77]) -> Result<(), AllocError>
+    requires { IsInStep names.old.characters names.old.items }
+    ensures added { OnOk result (names.new.items ≡ with_names names.old.items (code_names (code_of items.now))) }
+    ensures in_step { OnOk result (IsInStep names.new.characters names.new.items) }
+{
+    for item in items {
+        add_body(names, &item.body)?;
+    }
+    Ok(())
+}
+
+fn add_body<'a>(names: &mut Names<'a>, body: &'a Body77) -> Result<(), AllocError>
+    requires { IsInStep names.old.characters names.old.items }
+    ensures added { OnOk result (names.new.items ≡ with_names names.old.items (stmt_names (stmt_of body.now))) }
+    ensures in_step { OnOk result (IsInStep names.new.characters names.new.items) }
+{
+    match body {
+        Body77::Simple(stmt) => add_stmt(names, stmt),
+    }
+}
+
+fn add_stmt<'a>(names: &mut Names<'a>, stmt: &'a Stmt77) -> Result<(), AllocError>
+    requires { IsInStep names.old.characters names.old.items }
+    ensures added { OnOk result (names.new.items ≡ with_names names.old.items (stmt_names (stmt_of_simple stmt.now))) }
+    ensures in_step { OnOk result (IsInStep names.new.characters names.new.items) }
+{
+    match stmt {
+        Stmt77::Assign(variable, value) => {
+            add_expr(names, variable)?;
+            add_expr(names, value)
+        }
+        Stmt77::Continue => Ok(()),
+        Stmt77::Stop => Ok(()),
+    }
+}
+
+#[cycle(names)]
+#[tactic(auto, using(expr_tree::proofs::Equations::expr_equations, crate::proofs::NameLemmas::names_both))]
+fn add_expr<'a>(names: &mut Names<'a>, expr: &'a Expr) -> Result<(), AllocError>
+    requires { IsInStep names.old.characters names.old.items }
+    ensures added { OnOk result (names.new.items ≡ with_names names.old.items (expr_names (expr_of expr.now))) }
+    ensures in_step { OnOk result (IsInStep names.new.characters names.new.items) }
+{
+    match expr {
+        Expr::Int(_) => Ok(()),
+        Expr::Bool(_) => Ok(()),
+        Expr::Text(_) => Ok(()),
+        Expr::Name(name) => add_name(names, name),
+        Expr::Call(function, arguments) => {
+            add_name(names, function)?;
+            add_exprs(names, arguments.as_slice())
+        }
+        Expr::Substring(variable, from, to) => {
+            add_expr(names, variable.get())?;
+            add_bound(names, from)?;
+            add_bound(names, to)
+        }
+        Expr::Unary(_, operand) => add_expr(names, operand.get()),
+        Expr::Binary(_, left, right) => {
+            add_expr(names, left.get())?;
+            add_expr(names, right.get())
+        }
+        Expr::Paren(inner) => add_expr(names, inner.get()),
+    }
+}
+
+#[cycle(names)]
+fn add_exprs<'a>(names: &mut Names<'a>, exprs: &'a [Expr]) -> Result<(), AllocError>
+    requires { IsInStep names.old.characters names.old.items }
+    ensures added { OnOk result (names.new.items ≡ with_names names.old.items (exprs_names (exprs_of (map expr_of exprs.now)))) }
+    ensures in_step { OnOk result (IsInStep names.new.characters names.new.items) }
+{
+    for expr in exprs {
+        add_expr(names, expr)?;
+    }
+    Ok(())
+}
+
+#[cycle(names)]
+fn add_bound<'a>(names: &mut Names<'a>, bound: &'a Option<Boxed<Expr>>) -> Result<(), AllocError>
+    requires { IsInStep names.old.characters names.old.items }
+    ensures added { OnOk result (names.new.items ≡ with_names names.old.items (bound_names (bound_of (option_map expr_of bound.now)))) }
+    ensures in_step { OnOk result (IsInStep names.new.characters names.new.items) }
+{
+    match bound {
+        Some(bound) => add_expr(names, bound.get()),
+        None => Ok(()),
+    }
+}
+
+fn add_name<'a>(names: &mut Names<'a>, name: &'a Name) -> Result<(), AllocError>
+    requires { IsInStep names.old.characters names.old.items }
+    ensures added { OnOk result (names.new.items ≡ with_name names.old.items name.now) }
+    ensures in_step { OnOk result (IsInStep names.new.characters names.new.items) }
+{
+    let is_new = names.characters.insert(name.as_slice())?;
+    if is_new {
+        names.items.push(name.copy())?;
+    }
+    Ok(())
+}

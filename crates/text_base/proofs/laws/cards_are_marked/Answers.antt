@@ -1,8 +1,0 @@
-use Rattle.text_base.proofs.CardSizes.{marked, short}
-use Rattle.text_base.proofs.laws.cards_are_marked.Goals as goal
-
-pub returns-clause-marked : goal.returns-clause-marked
-returns-clause-marked c = marked
-
-pub returns-clause-short : goal.returns-clause-short
-returns-clause-short c = short
