@@ -9,7 +9,7 @@ use Rattle.std.proofs.lemmas.List.Sums.{length-filter, count_by-le-length, sum_b
 use Rattle.text_base.specs.Lines.{with_first, cut, without_return, lines, is_comment, is_initial, statement_field}
 use Rattle.text_base.specs.Kept.{kept}
 use Rattle.text_base.specs.Cards.{statement_lines, grouped, fields, card_of, cards}
-use Rattle.text_base.specs.declared.limits.TheConstants.{LARGEST_FILE}
+use Rattle.text_base.specs.declared.limits.TheConstants.{GREATEST_COUNT, LARGEST_FILE}
 
 abbrev Group : Type 0
 Group = (ℕ × List ℕ) × List (ℕ × List ℕ)
@@ -71,12 +71,12 @@ grouped_lines n (p ∷ ps) le = go (is_initial p.1) (grouped_lines n ps (omega a
 
 -- ---- statements
 
-card_length : (file n : ℕ) (g : Group) → length g.1 < n → n ≤ LARGEST_FILE → length (card_of file g).text < 4294967295
+card_length : (file n : ℕ) (g : Group) → length g.1 < n → n ≤ LARGEST_FILE → length (card_of file g).text < GREATEST_COUNT
 card_length file n g within le =
     omega (arith, length-append (statement_field g.0.1) (fields g.1), field_length g.0.1, fields_length g.1)
 
-pub short : (file : ℕ) (bytes : List ℕ) → length bytes ≤ LARGEST_FILE → All (λ card. length card.text < 4294967295) (cards file bytes)
+pub short : (file : ℕ) (bytes : List ℕ) → length bytes ≤ LARGEST_FILE → All (λ card. length card.text < GREATEST_COUNT) (cards file bytes)
 short file bytes le =
     let ps = statement_lines 1 (lines bytes) in
     let few = grouped_lines (length bytes) ps (statement_lines_length bytes) in
-    All-map (λ card. length card.text < 4294967295) (card_of file) (grouped ps) (λ k d within. card_length file (length bytes) (get_or (grouped ps) k d) (few k d within) le)
+    All-map (λ card. length card.text < GREATEST_COUNT) (card_of file) (grouped ps) (λ k d within. card_length file (length bytes) (get_or (grouped ps) k d) (few k d within) le)

@@ -41,9 +41,10 @@ fault_same : (b : Option Begun) (l : List ℕ) → line_fault b l ≡ read_fault
 fault_same b l = λ i. if is_comment l then long_fault l else
     (if is_initial l then initial_same l i else option_or (long_fault l) (option_or (column_fault BadLabelField (filled_column l)) (place_same b l i)))
 
-new_same : (fault : Option Fault) (l : List ℕ) → state_as (begun_new fault l) ≡ state_new fault l
-new_same None l = refl
-new_same (Some fault) l = refl
+new_same : (b : Option Begun) (fault : Option Fault) (l : List ℕ) → state_as (begun_new b fault l) ≡ state_new (option_map state_as b) fault l
+new_same b None l = refl
+new_same None (Some fault) l = refl
+new_same (Some b) (Some fault) l = refl
 
 more_same : (fault : Option Fault) (l : List ℕ) (b : Begun) → state_as (begun_more fault l b) ≡ state_more fault l (state_as b)
 more_same None l b = ap (λ (s : Scan). record { scan = s; continued = b.continued + 1 }) (scan_append (scan_start b.label) b.text (statement_field l))
@@ -56,10 +57,10 @@ after_more fault l (Some b) = ap Some (more_same fault l b)
 after_same : (b : Option Begun) (l : List ℕ) → option_map state_as (begun_after b l) ≡ state_after (option_map state_as b) (line_fault b l) l
 after_same b l = go (is_comment l) (is_initial l) (line_fault b l)
   where
-    go : (c i : Bool) (fault : Option Fault) → option_map state_as (if c then b else (if i then Some (begun_new fault l) else option_map (begun_more fault l) b))
-        ≡ (if c then option_map state_as b else (if i then Some (state_new fault l) else option_map (state_more fault l) (option_map state_as b)))
+    go : (c i : Bool) (fault : Option Fault) → option_map state_as (if c then b else (if i then Some (begun_new b fault l) else option_map (begun_more fault l) b))
+        ≡ (if c then option_map state_as b else (if i then Some (state_new (option_map state_as b) fault l) else option_map (state_more fault l) (option_map state_as b)))
     go true i fault = refl
-    go false true fault = ap Some (new_same fault l)
+    go false true fault = ap Some (new_same b fault l)
     go false false fault = after_more fault l b
 
 -- what is refused of some lines, after the lines so far of a statement
@@ -86,11 +87,12 @@ IsBelow n s = IfSome s (λ t. t.continued < n)
 below_after : (s : Option State) (fault : Option Fault) (l : List ℕ) (n : ℕ) → IsBelow n s → IsBelow (n + 1) (state_after s fault l)
 below_after s fault l n below = go (is_comment l) (is_initial l) s fault below
   where
-    go : (c i : Bool) (s : Option State) (fault : Option Fault) → IsBelow n s → IsBelow (n + 1) (if c then s else (if i then Some (state_new fault l) else option_map (state_more fault l) s))
+    go : (c i : Bool) (s : Option State) (fault : Option Fault) → IsBelow n s → IsBelow (n + 1) (if c then s else (if i then Some (state_new s fault l) else option_map (state_more fault l) s))
     go true i None fault below = tt
     go true i (Some t) fault below = omega (arith, below)
     go false true s None below = omega arith
-    go false true s (Some f) below = omega arith
+    go false true None (Some f) below = omega arith
+    go false true (Some t) (Some f) below = omega arith
     go false false None fault below = tt
     go false false (Some t) None below = omega (arith, below)
     go false false (Some t) (Some f) below = omega (arith, below)

@@ -11,7 +11,7 @@ use Rattle.text_base.specs.Remarks.{Remark}
 use Rattle.text_base.specs.declared.refusal.Place.{Place}
 use Rattle.text_base.specs.declared.refusal.Refusal.{Refusal}
 use Rattle.card_reader.specs.declared.card.Card.{Card}
-use Rattle.card_reader.specs.Deck.{Contents, card_of, empty_deck, remark_of, with_comment, with_initial, with_field, longer, waiting, with_continuation, with_cut, with_line, with_lines}
+use Rattle.card_reader.specs.Deck.{Contents, card_of, empty_deck, line_remark_of, with_comment, with_initial, with_field, longer, waiting, with_continuation, with_cut, with_line, with_lines}
 use Rattle.card_reader.proofs.Grouping.{following, card_from, read_statements, read_is_cards}
 
 -- ---- the last statement
@@ -72,7 +72,7 @@ statements_after file n (l ∷ ls) cards card t k = go (is_comment l) (is_initia
         → ((cards : List Card) (card : Card) (t : List Remark) (k : ℕ) → map card_of (with_lines file (n + 1) ls (record { statements = cards ++ card ∷ []; tail = t; cut = k })).statements ≡ map card_of cards ++ ended card (following ls) ∷ rest)
         → map card_of (with_lines file (n + 1) ls (if c then with_comment l deck else with_cut l (if i then with_initial place l deck else with_continuation l deck))).statements
         ≡ map card_of cards ++ ended card (if c then following ls else (if i then [] else statement_field l ++ following ls)) ∷ (if not c && i then card_from place l ls ∷ rest else rest)
-    go true i known = known cards card (t ++ remark_of l ∷ []) k
+    go true i known = known cards card (t ++ line_remark_of l ∷ []) k
     go false true known =
         known (cards ++ card ∷ []) (begun t file n l) [] (more_cut k l)
         ∙ (λ i. map-append card_of cards (card ∷ []) i ++ card_from place l ls ∷ rest)
@@ -100,7 +100,7 @@ statements_first file n (l ∷ ls) t k = go (is_comment l) (is_initial l) (state
     go : (c i : Bool) → ((t : List Remark) (k : ℕ) → map card_of (with_lines file (n + 1) ls (record { statements = []; tail = t; cut = k })).statements ≡ rest)
         → map card_of (with_lines file (n + 1) ls (if c then with_comment l deck else with_cut l (if i then with_initial place l deck else with_continuation l deck))).statements
         ≡ (if not c && i then card_from place l ls ∷ rest else rest)
-    go true i known = known (t ++ remark_of l ∷ []) k
+    go true i known = known (t ++ line_remark_of l ∷ []) k
     go false true known = statements_after file (n + 1) ls [] (begun t file n l) [] (more_cut k l)
     go false false known = known t (more_cut k l)
 

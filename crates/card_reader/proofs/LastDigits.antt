@@ -11,6 +11,7 @@ use Rattle.std.proofs.lemmas.Grind.{reverse_onto}
 use Rattle.std.proofs.lemmas.Int.Digits.{digits_value_push}
 use Rattle.std.proofs.lemmas.Bool.{and_parts, leb-true}
 use Rattle.std.proofs.lemmas.Str.{digit_value_digit}
+use Rattle.text_base.specs.declared.limits.TheConstants.{GREATEST_COUNT}
 use Rattle.text_base.specs.Chars.{is_digit, without_blanks}
 use Rattle.text_base.specs.Kept.{last_digits, more_count}
 
@@ -46,7 +47,7 @@ after_other text c e f = behind text c false e f
 
 -- the greatest count
 abbrev pub most : ℕ
-most = 4294967295
+most = GREATEST_COUNT
 
 -- the count that digits say
 abbrev pub count_of : List ℕ → Option ℕ

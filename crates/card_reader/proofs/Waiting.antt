@@ -7,10 +7,10 @@ use Rattle.text_base.specs.Cards.{comment_of, goes_on, whole_before, comments_of
 use Rattle.text_base.specs.Remarks.{Remark}
 use Rattle.text_base.specs.declared.refusal.Place.{Place}
 use Rattle.card_reader.specs.declared.card.Card.{Card}
-use Rattle.card_reader.specs.Deck.{Contents, numbered, card_comments, deck_comments, empty_deck, remark_of, with_comment, with_initial, longer, waiting, with_continuation, with_cut, with_lines}
+use Rattle.card_reader.specs.Deck.{Contents, numbered, card_comments, deck_comments, empty_deck, line_remark_of, with_comment, with_initial, longer, waiting, with_continuation, with_cut, with_lines}
 
 -- a line as a comment with a number
-remark_numbered : (w : ℕ) (l : List ℕ) → numbered w (remark_of l ∷ []) ≡ comment_of w l ∷ []
+remark_numbered : (w : ℕ) (l : List ℕ) → numbered w (line_remark_of l ∷ []) ≡ comment_of w l ∷ []
 remark_numbered w l = go (is_marked l || not (is_blank l))
   where
     go : (b : Bool) → numbered w ((if b then record { marked = true; text = drop 1 l } else record { marked = false; text = l }) ∷ [])
@@ -69,15 +69,15 @@ IsGoneOn file n ls cards t k =
 abbrev more_cut : ℕ → List ℕ → ℕ
 more_cut k l = k + (if is_cut l then 1 else 0)
 
-at_comment : (file n : ℕ) (l : List ℕ) (ls : List (List ℕ)) (cards : List Card) (t : List Remark) (k : ℕ) → IsGoneOn file n ls cards (t ++ remark_of l ∷ []) k
-    → deck_comments (with_lines file n ls (record { statements = cards; tail = t ++ remark_of l ∷ []; cut = k }))
+at_comment : (file n : ℕ) (l : List ℕ) (ls : List (List ℕ)) (cards : List Card) (t : List Remark) (k : ℕ) → IsGoneOn file n ls cards (t ++ line_remark_of l ∷ []) k
+    → deck_comments (with_lines file n ls (record { statements = cards; tail = t ++ line_remark_of l ∷ []; cut = k }))
     ≡ card_comments 0 cards [] ++ (numbered (whole_before (length cards) ls) t ++ comment_of (whole_before (length cards) ls) l ∷ comments_of (length cards) ls)
 at_comment file n l ls cards t k known =
     let w = whole_before (length cards) ls in
     let more = comments_of (length cards) ls in
     known
-    ∙ (λ i. card_comments 0 cards [] ++ (numbered_append w t (remark_of l ∷ []) i ++ more))
-    ∙ ap (λ xs. card_comments 0 cards [] ++ xs) (append_assoc (numbered w t) (numbered w (remark_of l ∷ [])) more)
+    ∙ (λ i. card_comments 0 cards [] ++ (numbered_append w t (line_remark_of l ∷ []) i ++ more))
+    ∙ ap (λ xs. card_comments 0 cards [] ++ xs) (append_assoc (numbered w t) (numbered w (line_remark_of l ∷ [])) more)
     ∙ (λ i. card_comments 0 cards [] ++ (numbered w t ++ (remark_numbered w l i ++ more)))
 
 at_initial : (file n : ℕ) (ls : List (List ℕ)) (cards : List Card) (card : Card) (k : ℕ) → IsGoneOn file n ls (cards ++ card ∷ []) [] k
@@ -115,7 +115,7 @@ comments_after file n (l ∷ ls) cards t k = go (is_comment l) (is_initial l) (c
         → deck_comments (with_lines file (n + 1) ls (if c then with_comment l deck else with_cut l (if i then with_initial place l deck else with_continuation l deck)))
         ≡ card_comments 0 cards [] ++ (numbered (if (if c then goes_on ls else not i) then length cards - 1 else length cards) t
         ++ (if c then comment_of (whole_before (length cards) ls) l ∷ comments_of (length cards) ls else comments_of (if i then length cards + 1 else length cards) ls))
-    go true i known = at_comment file (n + 1) l ls cards t k (known cards (t ++ remark_of l ∷ []) k)
+    go true i known = at_comment file (n + 1) l ls cards t k (known cards (t ++ line_remark_of l ∷ []) k)
     go false true known =
         let card : Card = record { comments = t; label = label_of l; text = statement_field l; place = place } in
         at_initial file (n + 1) ls cards card (more_cut k l) (known (cards ++ card ∷ []) [] (more_cut k l))

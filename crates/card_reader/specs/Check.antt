@@ -45,10 +45,15 @@ read_continuation s l = option_or (long_fault l) (option_or (column_fault BadLab
 abbrev pub read_fault : Option State → List ℕ → Option Fault
 read_fault s l = if is_comment l then long_fault l else (if is_initial l then read_initial l else read_continuation s l)
 
--- A statement after its initial line. Where the line is refused, the statement has no label and no characters.
-abbrev pub state_new : Option Fault → List ℕ → State
-state_new None l = record { scan = scan_all (scan_start (label_of l)) (statement_field l); continued = 0 }
-state_new (Some fault) l = record { scan = scan_start 0; continued = 0 }
+-- The statement that the lines after a refused initial line belong to: the one before it, or one without label and characters.
+abbrev pub state_anew : Option State → State
+state_anew None = record { scan = scan_start 0; continued = 0 }
+state_anew (Some s) = record { scan = s.scan; continued = 0 }
+
+-- the lines so far of a statement, after an initial line with this fault
+abbrev pub state_new : Option State → Option Fault → List ℕ → State
+state_new s None l = record { scan = scan_all (scan_start (label_of l)) (statement_field l); continued = 0 }
+state_new s (Some fault) l = state_anew s
 
 -- a statement after one more continuation line, which adds no characters where it is refused
 abbrev pub state_more : Option Fault → List ℕ → State → State
@@ -57,7 +62,7 @@ state_more (Some fault) l s = record { scan = s.scan; continued = s.continued + 
 
 -- the lines so far of a statement, after a line with this fault
 abbrev pub state_after : Option State → Option Fault → List ℕ → Option State
-state_after s fault l = if is_comment l then s else (if is_initial l then Some (state_new fault l) else option_map (state_more fault l) s)
+state_after s fault l = if is_comment l then s else (if is_initial l then Some (state_new s fault l) else option_map (state_more fault l) s)
 
 -- what is refused of the lines that are left
 abbrev pub read_refusals : ℕ → ℕ → Option State → List (List ℕ) → List Refusal

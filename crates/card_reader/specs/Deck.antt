@@ -40,12 +40,12 @@ abbrev pub empty_deck : Contents
 empty_deck = record { statements = []; tail = []; cut = 0 }
 
 -- A line as a comment: marked where it has a mark in column 1 or something after column 72, and then without its column 1.
-abbrev pub remark_of : List ℕ → Remark
-remark_of l = if is_marked l || not (is_blank l) then record { marked = true; text = drop 1 l } else record { marked = false; text = l }
+abbrev pub line_remark_of : List ℕ → Remark
+line_remark_of l = if is_marked l || not (is_blank l) then record { marked = true; text = drop 1 l } else record { marked = false; text = l }
 
 -- the comment waits behind the statements, since it isn't known yet whether the last one goes on
 abbrev pub with_comment : List ℕ → Contents → Contents
-with_comment l deck = record deck { tail = deck.tail ++ remark_of l ∷ [] }
+with_comment l deck = record deck { tail = deck.tail ++ line_remark_of l ∷ [] }
 
 -- a statement begins, with the comments that wait
 abbrev pub with_initial : Place → List ℕ → Contents → Contents

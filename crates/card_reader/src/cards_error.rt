@@ -6,14 +6,14 @@ use std::alloc::AllocError;
 use text_base::Refusals;
 use thiserror::Error;
 
-/// Why a file isn't read into statements (X3.9 section 3): it is refused, or memory is wanting.
+/// Why a file isn't read into statements (X3.9 section 3): it is refused, or memory is wanted.
 #[derive(Debug, Drop, Error)]
 pub enum CardsError {
     /// The file is refused. The list says where and why.
     #[error("the file is refused")]
     Refused(Refusals),
     /// Want of memory. Nothing is known of the file.
-    #[error("memory is wanting")]
+    #[error("memory is wanted")]
     Memory,
 }
 

@@ -4,6 +4,7 @@ ghost use Rattle.std.specs.Option.{option_map};
 ghost use Rattle.text_base.specs.Kept.{scan_start, scan_all};
 ghost use Rattle.text_base.specs.Lines.{label_of, statement_field};
 ghost use Rattle.text_base.specs.LineRefusals.{is_bad};
+ghost use Rattle.text_base.specs.declared.limits.TheConstants.{GREATEST_COUNT};
 ghost use Rattle.card_reader.specs.Check as reading;
 ghost use Rattle.card_reader.specs.Check.{state_of};
 ghost use Rattle.card_reader.specs.Fault.{fault_of, fault_in};
@@ -16,7 +17,7 @@ use text_base::Cause;
 use text_base::limits::MOST_CONTINUED;
 
 /// The lines so far of a statement: what their characters say of those that follow, and how many continuation lines
-/// there are.
+/// there are since the last initial line.
 #[derive(Clone, Copy, Drop)]
 pub struct State {
     scan: Scan,
@@ -119,15 +120,26 @@ fn unbegun_fault(line: &[u8]) -> Fault
     Fault { cause, number: 6 }
 }
 
-/// The statement that begins with an initial line, and what is wrong with the line. One that is refused leaves a
-/// statement without label and characters.
-fn after_initial(line: &[u8]) -> (State, Option<Fault>)
+/// What the lines after a refused initial line go on with: the characters of the statement before it, or of one without label
+/// and characters.
+fn scan_anew(state: Option<State>) -> Scan
+    ensures { scan_of result ≡ (reading.state_anew (option_map state_of state)).scan }
+{
+    match state {
+        None => Scan::start(0),
+        Some(state) => state.scan,
+    }
+}
+
+/// The statement behind an initial line, after the lines so far of the statement before it, and what is wrong with the line.
+/// One that is refused is left out.
+fn after_initial(before: Option<State>, line: &[u8]) -> (State, Option<Fault>)
     ensures fault { option_map fault_of result.1 ≡ reading.read_initial line.now }
-    ensures state { state_of result.0 ≡ reading.state_new (option_map fault_of result.1) line.now }
+    ensures state { state_of result.0 ≡ reading.state_new (option_map state_of before) (option_map fault_of result.1) line.now }
 {
     let (scan, fault) = match read_initial(line) {
         Ok(scan) => (scan, None),
-        Err(fault) => (Scan::start(0), Some(fault)),
+        Err(fault) => (scan_anew(before), Some(fault)),
     };
     (State { scan, continued: 0 }, fault)
 }
@@ -135,7 +147,7 @@ fn after_initial(line: &[u8]) -> (State, Option<Fault>)
 /// The statement behind one more continuation line, and what is wrong with the line. One that is refused leaves no
 /// characters.
 fn after_continuation(state: State, line: &[u8]) -> (State, Option<Fault>)
-    requires { state.continued < 4294967295 }
+    requires { state.continued < GREATEST_COUNT }
     ensures fault { option_map fault_of result.1 ≡ reading.read_continuation (Some (state_of state)) line.now }
     ensures state { state_of result.0 ≡ reading.state_more (option_map fault_of result.1) line.now (state_of state) }
 {
@@ -149,7 +161,7 @@ fn after_continuation(state: State, line: &[u8]) -> (State, Option<Fault>)
 
 /// The statement behind one more line, and what is wrong with the line.
 pub fn after_line(state: Option<State>, line: &[u8]) -> (Option<State>, Option<Fault>)
-    requires { IfSome state (λ state. state.continued < 4294967295) }
+    requires { IfSome state (λ state. state.continued < GREATEST_COUNT) }
     ensures fault { option_map fault_of result.1 ≡ reading.read_fault (option_map state_of state) line.now }
     ensures state { option_map state_of result.0 ≡ reading.state_after (option_map state_of state) (option_map fault_of result.1) line.now }
 {
@@ -157,7 +169,7 @@ pub fn after_line(state: Option<State>, line: &[u8]) -> (Option<State>, Option<F
         return (state, long_fault(line));
     }
     if is_initial(line) {
-        let (state, fault) = after_initial(line);
+        let (state, fault) = after_initial(state, line);
         return (Some(state), fault);
     }
     match state {

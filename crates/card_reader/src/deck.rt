@@ -1,5 +1,5 @@
 // What a file was read into.
-ghost use Rattle.std.specs.Prelude.{◌≡◌, ◌==◌, ◌<◌, not, true, OnOk};
+ghost use Rattle.std.specs.Prelude.{◌≡◌, ◌==◌, ◌<◌, ◌-◌, ◌^◌, not, true, OnOk};
 ghost use Rattle.std.specs.List.{list_all};
 ghost use Rattle.card_reader.specs.Deck as reading;
 
@@ -89,7 +89,7 @@ impl Deck {
         line: &[u8],
     ) -> Result<(), AllocError>
         requires feedless { list_all (λ c. not (c == 10)) line.now ≡ true }
-        requires room { self.old.cut < 4294967295 }
+        requires room { self.old.cut < 2 ^ 32 - 1 }
         ensures { OnOk result (self.new ≡ reading.with_line place line.now self.old) }
     {
         if is_comment(line) {

@@ -2,14 +2,14 @@
 ghost use Rattle.std.specs.Prelude.{◌≡◌, ◌<◌, ◌≤◌, All, ℕ, List, length};
 ghost use Rattle.text_base.specs.Kept.{is_format, IsMarked, kept};
 ghost use Rattle.text_base.specs.Cards.{cards, comments};
-ghost use Rattle.text_base.specs.declared.limits.TheConstants.{LARGEST_FILE};
+ghost use Rattle.text_base.specs.declared.limits.TheConstants.{GREATEST_COUNT, LARGEST_FILE};
 ghost use Rattle.text_base.specs.CommentLines.{comments_by_lines};
 
 /// The marks of a statement are those of its pieces, plain text and kept text in turn, and no others. A statement of a
 /// file has fewer characters than the number here.
 pub fn kept_is_by_pieces()
-    ensures marked { (label : ℕ) (text : List ℕ) → length text < 4294967295 → IsMarked (is_format label text) text (kept label text) }
-    ensures only { (label : ℕ) (text marks : List ℕ) → length text < 4294967295 → IsMarked (is_format label text) text marks → marks ≡ kept label text }
+    ensures marked { (label : ℕ) (text : List ℕ) → length text < GREATEST_COUNT → IsMarked (is_format label text) text (kept label text) }
+    ensures only { (label : ℕ) (text marks : List ℕ) → length text < GREATEST_COUNT → IsMarked (is_format label text) text marks → marks ≡ kept label text }
 {}
 
 /// What is counted before a comment are the statements of the file whose last line stands before it.
@@ -20,5 +20,5 @@ pub fn comments_stand_between_statements()
 /// The statements of a file have the marks of their characters, and fewer characters than the other laws ask for.
 pub fn cards_are_marked()
     ensures marked { (file : ℕ) (bytes : List ℕ) → All (λ card. card.kept ≡ kept card.label card.text) (cards file bytes) }
-    ensures short { (file : ℕ) (bytes : List ℕ) → length bytes ≤ LARGEST_FILE → All (λ card. length card.text < 4294967295) (cards file bytes) }
+    ensures short { (file : ℕ) (bytes : List ℕ) → length bytes ≤ LARGEST_FILE → All (λ card. length card.text < GREATEST_COUNT) (cards file bytes) }
 {}

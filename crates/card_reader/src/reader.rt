@@ -1,5 +1,5 @@
 // Reads a file into its statements and comments, or refuses it.
-ghost use Rattle.std.specs.Prelude.{◌≡◌, ◌≤◌, ◌<◌, ◌+◌, ◌++◌, ◌∷◌, ◌==◌, [], not, true, None, IfOk, OnOk, IfErr, map, length};
+ghost use Rattle.std.specs.Prelude.{◌≡◌, ◌≤◌, ◌<◌, ◌+◌, ◌-◌, ◌^◌, ◌++◌, ◌∷◌, ◌==◌, [], not, true, None, IfOk, OnOk, IfErr, map, length};
 ghost use Rattle.std.specs.List.{list_all};
 ghost use Rattle.std.specs.Option.{option_map};
 ghost use Rattle.text_base.specs.Lines.{lines, cut_lines};
@@ -36,7 +36,7 @@ impl Reader {
     // refused is found.
     fn take_line(&mut self, alloc: Global, line: &[u8]) -> Result<(), AllocError>
         requires feedless { list_all (λ c. not (c == 10)) line.now ≡ true }
-        requires room { self.old.next.line < 4294967295 }
+        requires room { self.old.next.line < 2 ^ 32 - 1 }
         requires counted { HasCounted self.old }
         ensures next { OnOk result (self.new.next ≡ record { file = self.old.next.file; line = self.old.next.line + 1 }) }
         ensures state { OnOk result (option_map state_of self.new.state ≡ state_after (option_map state_of self.old.state) (read_fault (option_map state_of self.old.state) line.now) line.now) }
@@ -77,7 +77,7 @@ fn read_line(
     deck: &mut Deck,
 ) -> Result<(), AllocError>
     requires feedless { list_all (λ c. not (c == 10)) line.now ≡ true }
-    requires room { deck.old.cut < 4294967295 }
+    requires room { deck.old.cut < 2 ^ 32 - 1 }
     ensures read { OnOk result (refusals.now ≡ [] → deck.new ≡ with_line place line.now deck.old) }
     ensures cut { OnOk result (deck.new.cut ≤ deck.old.cut + 1) }
 {

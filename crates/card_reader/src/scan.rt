@@ -5,12 +5,10 @@ ghost use Rattle.text_base.specs.Kept as kept;
 ghost use Rattle.card_reader.specs.Scan.{scan_of};
 
 use text_base::chars::{is_digit, to_upper};
+use text_base::limits::GREATEST_COUNT;
 
 /// With these characters a FORMAT statement begins.
 const FORMAT: [u8; 7] = *b"FORMAT(";
-
-/// More characters than any statement has.
-const MOST: u64 = 4_294_967_295;
 
 /// What the characters of a statement so far say of those that follow: which of them are kept text (X3.9 sections 4.8
 /// and 13.5.2).
@@ -142,7 +140,7 @@ fn more_count(count: Option<u32>, digit: u8) -> Option<u32>
     let value = u64::from(digit - 48);
     match count {
         None => Some(u32::from(digit - 48)),
-        Some(count) => Some((u64::from(count) * 10 + value).min(MOST) as u32),
+        Some(count) => Some((u64::from(count) * 10 + value).min(u64::from(GREATEST_COUNT)) as u32),
     }
 }
 

@@ -1,11 +1,11 @@
 -- What the program answers before anything is printed, and how a status comes.
-use Rattle.std.specs.Prelude.{◌≡◌, ◌⊎◌, ℕ, List, codes, Option, None}
+use Rattle.std.specs.Prelude.{◌≡◌, ◌⊎◌, ℕ, List, codes, Option, None, IfSome}
 use Rattle.text_base.specs.Files.{Files}
 use Rattle.tree77.specs.Tree.{SourceProgram}
 use Rattle.project_set.specs.Conversion.{program_report, IsConvertible}
 use Rattle.command.specs.Words.{Command}
 use Rattle.command.specs.Outputs.{with_files, outputs}
-use Rattle.command.specs.FromFile.{FromFile, LacksName, PartlyConverts}
+use Rattle.command.specs.FromFile.{FromFile, LacksName, PartlyConverts, Headline}
 use Rattle.command.specs.Lines.{usage_line, memory_line, IsFileLine, IsOutputLine, IsRefusalText}
 use Rattle.command.specs.declared.status.Status.{Status}
 use Rattle.command.specs.declared.status.Status.TheVariants.{Done, Refused, Usage, ReadFault, Missing, WriteFault, Memory}
@@ -47,14 +47,16 @@ IsBeforeWrites Memory = ⊥
 abbrev pub IsPartly : Option Command → (old new : Option Files) → Type 0
 IsPartly command old new = (new ≡ old) ⊎ FromFile command old (PartlyConverts old new)
 
--- The status that is answered, with the fault or the absence that was counted for it, what is held then, and the text for it.
-abbrev pub Answers : Status → Option Command → (old new : Option Files) → (unread absent unwritten : Type 0) → List ℕ → Type 0
-Answers Done command old new unread absent unwritten text =
-    FromFile command old (λ c bytes. (p : SourceProgram) × IsConvertible bytes p × (new ≡ with_files (outputs c bytes p) old) × (text ≡ program_report bytes p))
-Answers Refused command old new unread absent unwritten text = (new ≡ old) × IsRefusalText command old text
-Answers Usage command old new unread absent unwritten text = (new ≡ old) × (command ≡ None) × (text ≡ usage_line)
-Answers ReadFault command old new unread absent unwritten text = (new ≡ old) × unread × IsFileLine (codes "READ FAULT ") command text
-Answers Missing command old new unread absent unwritten text = (new ≡ old) × absent × LacksName command old × IsFileLine (codes "MISSING ") command text
-Answers WriteFault command old new unread absent unwritten text =
+-- The status that is answered, with what was counted for it (a read fault, an absence, a write fault, a write that wanted
+-- memory), what is held then, and the text for it. Where memory is wanted the contents are as before, unless a write wanted it.
+abbrev pub Answers : Status → Option Command → (old new : Option Files) → (unread absent unwritten denied : Type 0) → List ℕ → Type 0
+Answers Done command old new unread absent unwritten denied text =
+    FromFile command old (λ c bytes. (p : SourceProgram) × IsConvertible bytes p × (new ≡ with_files (outputs c bytes p) old)
+    × (text ≡ program_report bytes p) × IfSome new (Headline c bytes))
+Answers Refused command old new unread absent unwritten denied text = (new ≡ old) × IsRefusalText command old text
+Answers Usage command old new unread absent unwritten denied text = (new ≡ old) × (command ≡ None) × (text ≡ usage_line)
+Answers ReadFault command old new unread absent unwritten denied text = (new ≡ old) × unread × IsFileLine (codes "READ FAULT ") command text
+Answers Missing command old new unread absent unwritten denied text = (new ≡ old) × absent × LacksName command old × IsFileLine (codes "MISSING ") command text
+Answers WriteFault command old new unread absent unwritten denied text =
     unwritten × IsOutputLine command old new text
-Answers Memory command old new unread absent unwritten text = text ≡ memory_line
+Answers Memory command old new unread absent unwritten denied text = ((new ≡ old) ⊎ denied) × (text ≡ memory_line)

@@ -3,10 +3,9 @@ use Rattle.std.specs.Prelude.{◌≡◌, ℕ, List, [], Option, Some, None}
 use Rattle.std.specs.FinMap.{get}
 use Rattle.text_base.specs.Files.{Files, HasFile, LacksFile}
 use Rattle.tree77.specs.Tree.{SourceProgram}
-use Rattle.tree77.specs.Source.{IsSource}
 use Rattle.project_set.specs.Refusals.{refusals}
 use Rattle.project_set.specs.Conversion.{IsConvertible}
-use Rattle.project_set.specs.Laws.{DoesTheSameBy}
+use Rattle.project_set.specs.Laws.{IsFaithful}
 use Rattle.command.specs.Words.{Command, map_name}
 use Rattle.command.specs.Outputs.{with_files, PartlyWritten, outputs}
 
@@ -32,13 +31,10 @@ Converts old new command bytes = (p : SourceProgram) × IsConvertible bytes p ×
 abbrev pub PartlyConverts : (old new : Option Files) → Command → List ℕ → Type 0
 PartlyConverts old new command bytes = (p : SourceProgram) × IsConvertible bytes p × PartlyWritten (outputs command bytes p) old new
 
--- The bytes are the source of a program. The text under OUT has one reading, which does the same as the program, by the
--- map beside it, and has the same comments at the same positions.
+-- The bytes are the source of a program of which nothing is refused, and the text under OUT does the same by the map beside it.
 pub record Headline (command : Command) (bytes : List ℕ) (files : Files) : Type 0 where
-  pub source : SourceProgram
-  pub is_source : IsSource 0 bytes source
   pub text : List ℕ
   pub is_text : get files command.out ≡ Some text
   pub map : List ℕ
   pub is_map : get files (map_name command.out) ≡ Some map
-  pub does_the_same : DoesTheSameBy bytes source text map
+  pub faithful : IsFaithful bytes text map

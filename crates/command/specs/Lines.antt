@@ -23,6 +23,10 @@ sink_line = codes "WRITE FAULT output\n"
 abbrev pub line_with : List ℕ → List ℕ → List ℕ
 line_with words name = words ++ name ++ codes "\n"
 
+-- the line of an output that can't be written
+abbrev pub fault_line : List ℕ → List ℕ
+fault_line name = line_with (codes "WRITE FAULT ") name
+
 -- a word or two, and the name of the command's file
 abbrev pub IsFileLine : List ℕ → Option Command → List ℕ → Type 0
 IsFileLine words None text = ⊥
@@ -30,7 +34,7 @@ IsFileLine words (Some command) text = text ≡ line_with words command.file
 
 -- the line of the name at which the writing of some outputs stopped
 abbrev pub StoppedLine : List (List ℕ × List ℕ) → (old new : Option Files) → List ℕ → Type 0
-StoppedLine outputs old new text = (name : List ℕ) × StoppedAt outputs old new name × (text ≡ line_with (codes "WRITE FAULT ") name)
+StoppedLine outputs old new text = (name : List ℕ) × StoppedAt outputs old new name × (text ≡ fault_line name)
 
 -- the line of the output of a program at which the writing stopped, of which the file is the source
 abbrev pub IsOutputLine : Option Command → (old new : Option Files) → List ℕ → Type 0

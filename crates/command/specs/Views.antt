@@ -3,7 +3,7 @@ use Rattle.std.specs.Prelude.{ℕ, List, map, Result, Ok, Err}
 use Rattle.command.specs.declared.status.Status.{Status}
 use Rattle.command.specs.declared.status.Status.TheVariants.{Memory}
 use Rattle.command.specs.declared.words.Request.{Request}
-use Rattle.command.specs.declared.store.Output.{Output}
+use Rattle.command.specs.declared.output.Output.{Output}
 use Rattle.command.specs.declared.answers.Answer.{Answer}
 use Rattle.command.specs.Words.{Command}
 use Rattle.command.specs.Lines.{memory_line}
@@ -15,7 +15,7 @@ command_of r = record { file = r.file.now; out = r.out.now }
 abbrev pub texts_of : List Output → List (List ℕ × List ℕ)
 texts_of outputs = map (λ o. (o.name.now, o.bytes.now)) outputs
 
--- an answer's status and text: want of memory has its own
+-- an answer's status and text: where memory is wanted it has its own
 abbrev pub status_of : {E : Type 0} → Result Answer E → Status
 status_of (Ok answer) = answer.status
 status_of (Err e) = Memory

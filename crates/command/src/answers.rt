@@ -10,8 +10,9 @@ ghost use Rattle.command.specs.Store.{Wrote};
 ghost use Rattle.command.specs.Views.{command_of, status_of, text_of};
 
 use crate::Status;
-use crate::lines::refusal_text;
-use crate::store::{Output, StoreError, store_outputs};
+use crate::lines::{line_with, refusal_text};
+use crate::output::Output;
+use crate::store::{StoreError, store_outputs};
 use crate::words::{Request, read_words};
 use project_set::{ConvertError, Outputs, convert};
 use std::alloc::{AllocError, Global};
@@ -24,6 +25,7 @@ pub struct Answer {
     pub text: Bytes,
 }
 
+// The bytes of a file.
 fn load<S: Shelf>(alloc: Global, shelf: &mut S, name: &str) -> Result<Vec<u8>, ShelfRead>
     ensures unchanged { S.held shelf.new ≡ S.held shelf.old }
     ensures whole { IfOk result (λ bytes. HasFile (S.held shelf.old) name.now bytes.items) }
@@ -31,6 +33,7 @@ fn load<S: Shelf>(alloc: Global, shelf: &mut S, name: &str) -> Result<Vec<u8>, S
     ensures absent { IsErrOf result ShelfRead.Missing → Rose (S.absences shelf.old) (S.absences shelf.new) }
     ensures failed { IsErrOf result ShelfRead.Failed → Rose (S.read_faults shelf.old) (S.read_faults shelf.new) }
     ensures write_count { S.write_faults shelf.new ≡ S.write_faults shelf.old }
+    ensures denial_count { S.denials shelf.new ≡ S.denials shelf.old }
     ensures reliable { S.reliable shelf.old → S.reliable shelf.new × (S.read_faults shelf.new ≡ S.read_faults shelf.old) }
 {
     let mut bytes = Vec::new(alloc);
@@ -38,16 +41,17 @@ fn load<S: Shelf>(alloc: Global, shelf: &mut S, name: &str) -> Result<Vec<u8>, S
     Ok(bytes)
 }
 
-fn line_answer(alloc: Global, status: Status, head: &str, name: &str) -> Result<Answer, AllocError>
+// A status, with a line of a word or two and a name.
+fn line_answer(alloc: Global, status: Status, words: &str, name: &str) -> Result<Answer, AllocError>
     ensures status { IfOk result (λ answer. answer.status ≡ status) }
-    ensures text { IfOk result (λ answer. answer.text ≡ line_with head.now name.now) }
+    ensures text { IfOk result (λ answer. answer.text ≡ line_with words.now name.now) }
 {
-    let line = format!(in alloc; "{head}{name}\n")?;
-    let text = Bytes::from_vec(line.into_bytes());
+    let text = line_with(alloc, words, name)?;
     Ok(Answer { status, text })
 }
 
-// Writes the texts of a source.
+// Writes the texts of a source. The lines that may be owed are made before the first write, and the report is the text that is
+// answered, so that no memory is taken later but by the shelf.
 fn write_texts<S: Shelf>(
     alloc: Global,
     request: &Request<'_>,
@@ -56,36 +60,27 @@ fn write_texts<S: Shelf>(
 ) -> Result<Answer, AllocError>
     requires map { string_bytes request.now.map ≡ map_name request.now.out.now }
     requires report { string_bytes request.now.report ≡ report_name request.now.out.now }
-    ensures wrote { Wrote (status_of result) (command_of request.now) (named_texts request.now.out.now made.text made.map made.report) made.report
-        (S.held shelf.old) (S.held shelf.new) (Rose (S.write_faults shelf.old) (S.write_faults shelf.new)) (text_of result) }
+    ensures wrote { Wrote (status_of result) (named_texts request.now.out.now made.text made.map made.report) made.report
+        (S.held shelf.old) (S.held shelf.new) (Rose (S.write_faults shelf.old) (S.write_faults shelf.new))
+        (Rose (S.denials shelf.old) (S.denials shelf.new)) (text_of result) }
     ensures partly { PartlyWritten (named_texts request.now.out.now made.text made.map made.report) (S.held shelf.old) (S.held shelf.new) }
     ensures read_count { S.read_faults shelf.new ≡ S.read_faults shelf.old }
     ensures absence_count { S.absences shelf.new ≡ S.absences shelf.old }
     ensures reliable { S.reliable shelf.old → S.reliable shelf.new × (S.write_faults shelf.new ≡ S.write_faults shelf.old) }
 {
-    let text = Bytes::from_slice(alloc, made.report.as_slice())?;
-    let outputs = [
-        Output {
-            name: request.out,
-            bytes: made.text.as_slice(),
-        },
-        Output {
-            name: request.map.as_str(),
-            bytes: made.map.as_slice(),
-        },
-        Output {
-            name: request.report.as_str(),
-            bytes: made.report.as_slice(),
-        },
-    ];
-    match store_outputs(shelf, &outputs) {
+    let Outputs { text, map, report } = made;
+    let first = Output::new(alloc, request.out, text.as_slice())?;
+    let second = Output::new(alloc, request.map.as_str(), map.as_slice())?;
+    let third = Output::new(alloc, request.report.as_str(), report.as_slice())?;
+    match store_outputs(shelf, first, second, third) {
         Ok(()) => Ok(Answer {
             status: Status::Done,
-            text,
+            text: report,
         }),
-        Err(StoreError::Failed(name)) => {
-            line_answer(alloc, Status::WriteFault, "WRITE FAULT ", name)
-        }
+        Err(StoreError::Failed(line)) => Ok(Answer {
+            status: Status::WriteFault,
+            text: line,
+        }),
         Err(StoreError::Memory) => Err(AllocError),
     }
 }
@@ -101,7 +96,7 @@ fn answer_bytes<S: Shelf>(
     requires report { string_bytes request.now.report ≡ report_name request.now.out.now }
     requires has { HasFile (S.held shelf.old) request.now.file.now bytes.now }
     ensures answers { Answers (status_of result) (Some (command_of request.now)) (S.held shelf.old) (S.held shelf.new) ⊥ ⊥
-        (Rose (S.write_faults shelf.old) (S.write_faults shelf.new)) (text_of result) }
+        (Rose (S.write_faults shelf.old) (S.write_faults shelf.new)) (Rose (S.denials shelf.old) (S.denials shelf.new)) (text_of result) }
     ensures partly { IsPartly (Some (command_of request.now)) (S.held shelf.old) (S.held shelf.new) }
     ensures read_count { S.read_faults shelf.new ≡ S.read_faults shelf.old }
     ensures reliable { S.reliable shelf.old → S.reliable shelf.new × (S.write_faults shelf.new ≡ S.write_faults shelf.old) }
@@ -127,7 +122,7 @@ fn answer_request<S: Shelf>(
     requires report { string_bytes request.now.report ≡ report_name request.now.out.now }
     ensures answers { Answers (status_of result) (Some (command_of request.now)) (S.held shelf.old) (S.held shelf.new)
         (Rose (S.read_faults shelf.old) (S.read_faults shelf.new)) (Rose (S.absences shelf.old) (S.absences shelf.new))
-        (Rose (S.write_faults shelf.old) (S.write_faults shelf.new)) (text_of result) }
+        (Rose (S.write_faults shelf.old) (S.write_faults shelf.new)) (Rose (S.denials shelf.old) (S.denials shelf.new)) (text_of result) }
     ensures partly { IsPartly (Some (command_of request.now)) (S.held shelf.old) (S.held shelf.new) }
     ensures reliable { S.reliable shelf.old → (S.read_faults shelf.new ≡ S.read_faults shelf.old) × (S.write_faults shelf.new ≡ S.write_faults shelf.old) }
 {
@@ -141,7 +136,8 @@ fn answer_request<S: Shelf>(
     }
 }
 
-/// Does what the words ask for, and answers what is to be printed. Want of memory may end it at any point.
+/// Does what the words ask for, and answers the status that is wanted and the text that is to be printed for it. It fails where
+/// memory is wanted: then the shelf holds what it held, or memory is wanted by one of its writes, which it counted.
 pub fn answer_words<S: Shelf>(
     alloc: Global,
     words: &[String],
@@ -149,7 +145,7 @@ pub fn answer_words<S: Shelf>(
 ) -> Result<Answer, AllocError>
     ensures answers { Answers (status_of result) (form (words_of words.now)) (S.held shelf.old) (S.held shelf.new)
         (Rose (S.read_faults shelf.old) (S.read_faults shelf.new)) (Rose (S.absences shelf.old) (S.absences shelf.new))
-        (Rose (S.write_faults shelf.old) (S.write_faults shelf.new)) (text_of result) }
+        (Rose (S.write_faults shelf.old) (S.write_faults shelf.new)) (Rose (S.denials shelf.old) (S.denials shelf.new)) (text_of result) }
     ensures partly { IsPartly (form (words_of words.now)) (S.held shelf.old) (S.held shelf.new) }
     ensures reliable { S.reliable shelf.old → (S.read_faults shelf.new ≡ S.read_faults shelf.old) × (S.write_faults shelf.new ≡ S.write_faults shelf.old) }
 {

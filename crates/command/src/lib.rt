@@ -3,13 +3,14 @@
 
 mod answers;
 mod lines;
-mod memory;
+mod output;
+mod over_memory;
 mod print;
 mod status;
 mod store;
 mod top;
 mod words;
 
-pub use memory::in_memory;
+pub use over_memory::in_memory;
 pub use status::Status;
 pub use top::modern;

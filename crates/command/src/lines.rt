@@ -1,9 +1,17 @@
-// The lines of refusals.
+// The lines that are printed.
 ghost use Rattle.std.specs.Prelude.{◌≡◌, IfOk, string_bytes};
-ghost use Rattle.command.specs.Lines.{refusal_head, refusal_line, refusal_lines};
+ghost use Rattle.command.specs.Lines.{line_with, refusal_head, refusal_line, refusal_lines};
 
 use std::alloc::{AllocError, Global};
 use text_base::{Bytes, Refusal};
+
+/// A line of a word or two, and a name. It fails where memory is wanted, and for nothing else.
+pub fn line_with(alloc: Global, words: &str, name: &str) -> Result<Bytes, AllocError>
+    ensures { IfOk result (λ text. text ≡ line_with words.now name.now) }
+{
+    let line = format!(in alloc; "{words}{name}\n")?;
+    Ok(Bytes::from_vec(line.into_bytes()))
+}
 
 fn refusal_head(
     alloc: Global,

@@ -10,7 +10,7 @@ use crate::answers::Answer;
 use std::alloc::AllocError;
 use text_base::{Sink, SinkError};
 
-// Puts the whole text. A call that takes nothing counts as failed.
+// Puts the whole text, in as many pieces as the sink takes. A call that takes nothing of a piece counts as failed.
 fn print<O: Sink>(out: &mut O, text: &[u8]) -> Result<(), SinkError>
     ensures whole { OnOk result (O.written out.new ≡ append_known (O.written out.old) text.now) }
     ensures part { OnErr result ((part : List ℕ) × IsPrefix part text.now × (O.written out.new ≡ append_known (O.written out.old) part)) }
@@ -31,10 +31,11 @@ fn print<O: Sink>(out: &mut O, text: &[u8]) -> Result<(), SinkError>
     Ok(())
 }
 
-// Prints the text of a status.
+// Prints the text of a status, and the line that is owed where the sink fails at a text that is owed whole.
 fn say_text<O: Sink>(out: &mut O, status: Status, text: &[u8]) -> Status
     ensures says { (printed : List ℕ) × (O.written out.new ≡ append_known (O.written out.old) printed)
-        × Says (Rose (O.faults out.old) (O.faults out.new)) (Rose (O.denials out.old) (O.denials out.new)) status text.now result printed }
+        × Says (record { faults = O.faults out.old; denials = O.denials out.old }) (record { faults = O.faults out.new; denials = O.denials out.new })
+        status text.now result printed }
     ensures reliable { O.reliable out.old → O.faults out.new ≡ O.faults out.old }
 {
     let outcome = print(out, text);
@@ -54,10 +55,11 @@ fn say_text<O: Sink>(out: &mut O, status: Status, text: &[u8]) -> Status
     }
 }
 
-/// Prints what was answered. The report and the refusals are owed whole: where they can't be put, that is the status.
+/// Prints what was answered, and answers the status that comes. The report and the refusals are owed whole: where the sink fails
+/// or wants memory for them, that is the status, and its line is printed after what was taken.
 pub fn say<O: Sink>(out: &mut O, outcome: &Result<Answer, AllocError>) -> Status
     ensures says { (printed : List ℕ) × (O.written out.new ≡ append_known (O.written out.old) printed)
-        × Says (Rose (O.faults out.old) (O.faults out.new)) (Rose (O.denials out.old) (O.denials out.new))
+        × Says (record { faults = O.faults out.old; denials = O.denials out.old }) (record { faults = O.faults out.new; denials = O.denials out.new })
         (status_of outcome.now) (text_of outcome.now) result printed }
     ensures reliable { O.reliable out.old → O.faults out.new ≡ O.faults out.old }
 {

@@ -15,7 +15,7 @@ use Rattle.scan77.specs.TokenReading.{no_token, read_tokens}
 use Rattle.group77.specs.Building.{build}
 use Rattle.expr77.specs.Gathering.{keep}
 use Rattle.expr77.specs.LexemeReading.{lexemes_of}
-use Rattle.expr77.specs.Outcome.{accepted, refused, tree_of, expression_of, outcome_from, outcome_of}
+use Rattle.expr77.specs.Outcome.{accepted, refused, tree_and_lowest, expression_of, outcome_from, outcome_of}
 use Rattle.expr77.specs.Parsing.{IsReadFrom}
 use Rattle.expr77.proofs.GatherLaw.{keeps_on}
 use Rattle.expr77.proofs.LexemeFound.{lexemes_found}
@@ -67,7 +67,7 @@ one_wide is_read is_only pieces lexemes others x y first second =
 pub read_found : TreeIsFound → (depth : ℕ) (lowest next : Option Part) (pieces : List Piece) (tokens : List Token) (x : Expr) → IsCut pieces tokens → expression_of depth lowest tokens ≡ Some (x, next)
     → IsReadFrom depth lowest pieces x next
 read_found is_found depth lowest next pieces tokens x cut e =
-    let w = went (lexemes_of tokens) (tree_of depth lowest) (x, next) e in
+    let w = went (lexemes_of tokens) (tree_and_lowest depth lowest) (x, next) e in
     let m = mapped (build (map symbol_of w.from)) (λ x. (x, keep lowest (parts_from depth w.from))) (x, next) w.is in
     let tree : m.from ≡ x = ap (λ (p : Expr × Option Part). p.0) m.is in
     let kept : keep lowest (parts_from depth w.from) ≡ next = ap (λ (p : Expr × Option Part). p.1) m.is in (

@@ -14,13 +14,13 @@ use Rattle.tree77.specs.Tokens.{Token, TokenKind, run, digits, kept, mark, IsCut
 use Rattle.tree77.specs.Lexemes.{Lexeme, constant, logical, characters, name, alternate, operator, not_sign, opening, closing, comma, colon, is_label, IsQuoted, quoted_nothing, quoted_other, quoted_apostrophe, IsLexeme, lexeme_integer, lexeme_constant, lexeme_logical, lexeme_characters, lexeme_name, lexeme_alternate, lexeme_operator, lexeme_not, lexeme_open, lexeme_close, lexeme_comma, lexeme_colon, AreLexemes, lexemes_none, lexemes_more}
 use Rattle.text_base.proofs.Optional.{went, mapped}
 use Rattle.expr77.specs.LexemeReading as reading
-use Rattle.expr77.specs.LexemeReading.{Number, real, first_or_0, behind_mark, run_here, digits_here, read_number, behind_complex, behind_hollerith, Stand, is_after, is_argument, read_quoted, unless_empty, read_characters, read_word, Found, lexeme_of_number, found_number, or_found, read_dotted, point_at, if_label, read_star, read_slash, read_open, read_mark, read_token, read_lexeme, stand_behind, read_lexemes, lexemes_of}
-use Rattle.expr77.proofs.LexemeParts.{IsFormed, AllFormed, pieces_of, cut_formed, cut_pieces, Behind, joined, first_read, mark_found, run_found, digits_found, IsNumberText, number_found, complex_found, hollerith_found}
+use Rattle.expr77.specs.LexemeReading.{Number, real, first_or_0, behind_mark, run_here, digits_here, read_number, behind_complex, behind_hollerith, Stand, is_after, is_argument, read_quoted, unless_empty, quoted_value, read_word, Found, lexeme_of_number, found_number, or_found, read_dotted, point_at, if_label, read_star, read_slash, read_open, read_mark, read_token, read_lexeme, stand_behind, read_lexemes, lexemes_of}
+use Rattle.expr77.proofs.LexemeParts.{IsFormed, AllFormed, pieces_of_tokens, cut_formed, cut_pieces, Behind, joined, first_read, mark_found, run_found, digits_found, IsNumberText, number_found, complex_found, hollerith_found}
 
 -- the tokens begin with the lexeme, and the rest follows
 record Leads (tokens : List Token) (i : Lexeme) (rest : List Token) : Type 0 where
   first : List Piece
-  front : pieces_of tokens ≡ first ++ pieces_of rest
+  front : pieces_of_tokens tokens ≡ first ++ pieces_of_tokens rest
   spelled : IsLexeme first i
   formed : AllFormed rest
 
@@ -101,7 +101,7 @@ quoted_found true (c ∷ t) value e = go (c == 39) refl e (quoted_found false t)
     go false is e more = absurd cc
 
 -- a kept text that is read is a character constant
-characters_found : (t value : List ℕ) → read_characters t ≡ Some value → IsLexeme (piece.whole t ∷ []) (characters value)
+characters_found : (t value : List ℕ) → quoted_value t ≡ Some value → IsLexeme (piece.whole t ∷ []) (characters value)
 characters_found [] value e = absurd cc
 characters_found (c ∷ t) value e = go (c == 39) refl e
   where
@@ -261,14 +261,14 @@ lexeme_leads s (token ∷ rest) p all e = go token.kind token.text all.0 e
     go run t formed e = name_leads t (record { kind = run; text = t } ∷ rest) rest p (is_word t) refl (first_read (record { kind = run; text = t }) rest rest t refl refl all.1) e
     go digits t formed e = digits_lead t (record { kind = digits; text = t } ∷ rest) rest p (formed, all.1) (first_read (record { kind = digits; text = t }) rest rest t refl refl all.1) formed e
     go kept t formed e =
-        let m = mapped (read_characters t) (λ v. (characters v, rest)) p e in
+        let m = mapped (quoted_value t) (λ v. (characters v, rest)) p e in
         subst (LeadsTo (record { kind = kept; text = t } ∷ rest)) m.is (record { first = piece.whole t ∷ []; front = refl; spelled = characters_found t m.from m.was; formed = all.1 })
     go mark t formed e =
         let text : t ≡ first_or_0 t ∷ [] = formed.1 ∙ ap (λ (n : ℕ). n ∷ []) (sym (ap first_or_0 formed.1)) in
         mark_leads s (first_or_0 t) (record { kind = mark; text = t } ∷ rest) rest p (formed, all.1) (first_read (record { kind = mark; text = t }) rest rest (first_or_0 t ∷ []) (ap (map plain) text) refl all.1) e
 
 -- the lexemes that are read are spelled one after another
-lexemes_lead : (n : ℕ) (s : Stand) (ts : List Token) (lexemes : List Lexeme) → AllFormed ts → read_lexemes n s ts ≡ Some lexemes → AreLexemes (pieces_of ts) lexemes
+lexemes_lead : (n : ℕ) (s : Stand) (ts : List Token) (lexemes : List Lexeme) → AllFormed ts → read_lexemes n s ts ≡ Some lexemes → AreLexemes (pieces_of_tokens ts) lexemes
 lexemes_lead n s [] lexemes all e = lexemes_none refl (sym (same_Some {A = List Lexeme} [] lexemes e))
 lexemes_lead zero s (t ∷ ts) lexemes all e = absurd cc
 lexemes_lead (suc n) s (t ∷ ts) lexemes all e =

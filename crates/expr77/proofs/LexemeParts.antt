@@ -30,8 +30,8 @@ AllFormed [] = Unit {0}
 AllFormed (t ∷ ts) = IsFormed t.kind t.text × AllFormed ts
 
 -- the pieces of tokens, one token after another
-abbrev pub pieces_of : List Token → List Piece
-pieces_of = flat_map token_pieces
+abbrev pub pieces_of_tokens : List Token → List Piece
+pieces_of_tokens = flat_map token_pieces
 
 -- tokens that pieces are cut into are formed
 pub cut_formed : (pieces : List Piece) (tokens : List Token) → IsCut pieces tokens → AllFormed tokens
@@ -42,24 +42,24 @@ cut_formed pieces tokens (cut_text {rest = rest} {more = more} t front follows i
 cut_formed pieces tokens (cut_mark {rest = rest} {more = more} c front marks follows is) = subst AllFormed (sym is) ((c, refl), cut_formed rest more follows)
 
 -- pieces are those of the tokens that they are cut into
-pub cut_pieces : (pieces : List Piece) (tokens : List Token) → IsCut pieces tokens → pieces ≡ pieces_of tokens
-cut_pieces pieces tokens (cut_nothing none end) = none ∙ ap pieces_of (sym end)
+pub cut_pieces : (pieces : List Piece) (tokens : List Token) → IsCut pieces tokens → pieces ≡ pieces_of_tokens tokens
+cut_pieces pieces tokens (cut_nothing none end) = none ∙ ap pieces_of_tokens (sym end)
 cut_pieces pieces tokens (cut_run {rest = rest} {more = more} c u front upper all stops follows is) =
-    front ∙ ap (λ (x : List Piece). plain c ∷ (map plain u ++ x)) (cut_pieces rest more follows) ∙ ap pieces_of (sym is)
+    front ∙ ap (λ (x : List Piece). plain c ∷ (map plain u ++ x)) (cut_pieces rest more follows) ∙ ap pieces_of_tokens (sym is)
 cut_pieces pieces tokens (cut_digits {rest = rest} {more = more} c u front digit all stops follows is) =
-    front ∙ ap (λ (x : List Piece). plain c ∷ (map plain u ++ x)) (cut_pieces rest more follows) ∙ ap pieces_of (sym is)
-cut_pieces pieces tokens (cut_text {rest = rest} {more = more} t front follows is) = front ∙ ap (λ (x : List Piece). token_pieces (record { kind = kept; text = t }) ++ x) (cut_pieces rest more follows) ∙ ap pieces_of (sym is)
-cut_pieces pieces tokens (cut_mark {rest = rest} {more = more} c front marks follows is) = front ∙ ap (λ (x : List Piece). plain c ∷ x) (cut_pieces rest more follows) ∙ ap pieces_of (sym is)
+    front ∙ ap (λ (x : List Piece). plain c ∷ (map plain u ++ x)) (cut_pieces rest more follows) ∙ ap pieces_of_tokens (sym is)
+cut_pieces pieces tokens (cut_text {rest = rest} {more = more} t front follows is) = front ∙ ap (λ (x : List Piece). token_pieces (record { kind = kept; text = t }) ++ x) (cut_pieces rest more follows) ∙ ap pieces_of_tokens (sym is)
+cut_pieces pieces tokens (cut_mark {rest = rest} {more = more} c front marks follows is) = front ∙ ap (λ (x : List Piece). plain c ∷ x) (cut_pieces rest more follows) ∙ ap pieces_of_tokens (sym is)
 
 -- ---- a text at the front
 
 -- the tokens begin with this text, outside kept texts, and the rest follows
 pub record Behind (text : List ℕ) (tokens rest : List Token) : Type 0 where
-  pub front : pieces_of tokens ≡ map plain text ++ pieces_of rest
+  pub front : pieces_of_tokens tokens ≡ map plain text ++ pieces_of_tokens rest
   pub formed : AllFormed rest
 
 -- the tokens begin with such a text
-pub record Reads (Rule : List ℕ → Type 0) (tokens rest : List Token) : Type 0 where
+pub record BeginsWith (Rule : List ℕ → Type 0) (tokens rest : List Token) : Type 0 where
   pub text : List ℕ
   pub behind : Behind text tokens rest
   pub is : Rule text
@@ -74,15 +74,15 @@ joined u v a b c p q =
     record {
       front = p.front
           ∙ ap (λ (x : List Piece). map plain u ++ x) q.front
-          ∙ sym (append_assoc (map plain u) (map plain v) (pieces_of c))
-          ∙ ap (λ (x : List Piece). x ++ pieces_of c) (sym (map-append plain u v));
+          ∙ sym (append_assoc (map plain u) (map plain v) (pieces_of_tokens c))
+          ∙ ap (λ (x : List Piece). x ++ pieces_of_tokens c) (sym (map-append plain u v));
       formed = q.formed;
     }
 
 -- the first token is the text
 pub first_read : (t : Token) (ts rest : List Token) (text : List ℕ) → token_pieces t ≡ map plain text → ts ≡ rest → AllFormed ts → Behind text (t ∷ ts) rest
 first_read t ts rest text whole same all =
-    record { front = ap (λ (x : List Piece). x ++ pieces_of ts) whole ∙ ap (λ (r : List Token). map plain text ++ pieces_of r) same; formed = subst AllFormed same all }
+    record { front = ap (λ (x : List Piece). x ++ pieces_of_tokens ts) whole ∙ ap (λ (r : List Token). map plain text ++ pieces_of_tokens r) same; formed = subst AllFormed same all }
 
 -- ---- single tokens
 
@@ -130,18 +130,18 @@ digits_found (t ∷ ts) r all e = go t.kind t.text all.0 e
 -- ---- signs and exponents
 
 -- a sign that is read is plus or minus
-sign_found : (ts rest : List Token) → AllFormed ts → option_or (behind_mark 43 ts) (behind_mark 45 ts) ≡ Some rest → Reads IsSign ts rest
+sign_found : (ts rest : List Token) → AllFormed ts → option_or (behind_mark 43 ts) (behind_mark 45 ts) ≡ Some rest → BeginsWith IsSign ts rest
 sign_found ts rest all e = go (either (behind_mark 43 ts) (behind_mark 45 ts) rest e)
   where
-    go : (behind_mark 43 ts ≡ Some rest) ⊎ (behind_mark 45 ts ≡ Some rest) → Reads IsSign ts rest
+    go : (behind_mark 43 ts ≡ Some rest) ⊎ (behind_mark 45 ts ≡ Some rest) → BeginsWith IsSign ts rest
     go (inl e) = record { text = 43 ∷ []; behind = mark_found 43 ts rest refl all e; is = inr (inl refl) }
     go (inr e) = record { text = 45 ∷ []; behind = mark_found 45 ts rest refl all e; is = inr (inr refl) }
 
 -- a sign, or none
-any_sign_found : (ts : List Token) → AllFormed ts → Reads IsSign ts (behind_sign ts)
+any_sign_found : (ts : List Token) → AllFormed ts → BeginsWith IsSign ts (behind_sign ts)
 any_sign_found ts all = go (option_or (behind_mark 43 ts) (behind_mark 45 ts)) refl
   where
-    go : (o : Option (List Token)) → option_or (behind_mark 43 ts) (behind_mark 45 ts) ≡ o → Reads IsSign ts (or_all ts o)
+    go : (o : Option (List Token)) → option_or (behind_mark 43 ts) (behind_mark 45 ts) ≡ o → BeginsWith IsSign ts (or_all ts o)
     go None e = record { text = []; behind = nothing_read ts all; is = inl refl }
     go (Some rest) e = sign_found ts rest all e
 
@@ -154,13 +154,13 @@ exponent_letter c is = go (or_cases (c == 69) (c == 68) is)
     go (inr e) = inr (eqb-true c 68 e)
 
 -- what follows the run of an exponent completes the exponent
-exponent_run_found : (t : List ℕ) (rest after : List Token) → AllFormed rest → behind_exponent_run t rest ≡ Some after → Reads (λ u. IsExponent (t ++ u)) rest after
+exponent_run_found : (t : List ℕ) (rest after : List Token) → AllFormed rest → behind_exponent_run t rest ≡ Some after → BeginsWith (λ u. IsExponent (t ++ u)) rest after
 exponent_run_found [] rest after all e = absurd cc
 exponent_run_found (c ∷ []) rest after all e = go (is_exponent_letter c) refl e
   where
     go : (b : Bool) → is_exponent_letter c ≡ b
         → (if b then option_and_then (λ more. option_map (λ d. d.1) (digits_here more)) (option_or (behind_mark 43 rest) (behind_mark 45 rest)) else None) ≡ Some after
-        → Reads (λ u. IsExponent ((c ∷ []) ++ u)) rest after
+        → BeginsWith (λ u. IsExponent ((c ∷ []) ++ u)) rest after
     go false is e = absurd cc
     go true is e =
         let w = went (option_or (behind_mark 43 rest) (behind_mark 45 rest)) (λ more. option_map (λ d. d.1) (digits_here more)) after e in
@@ -174,7 +174,7 @@ exponent_run_found (c ∷ []) rest after all e = go (is_exponent_letter c) refl 
         }
 exponent_run_found (c ∷ d ∷ t) rest after all e = go (is_exponent_letter c && list_all is_digit (d ∷ t)) refl e
   where
-    go : (b : Bool) → (is_exponent_letter c && list_all is_digit (d ∷ t)) ≡ b → (if b then Some rest else None) ≡ Some after → Reads (λ u. IsExponent ((c ∷ d ∷ t) ++ u)) rest after
+    go : (b : Bool) → (is_exponent_letter c && list_all is_digit (d ∷ t)) ≡ b → (if b then Some rest else None) ≡ Some after → BeginsWith (λ u. IsExponent ((c ∷ d ∷ t) ++ u)) rest after
     go false is e = absurd cc
     go true is e =
         let parts = and_parts (is_exponent_letter c) (list_all is_digit (d ∷ t)) is in
@@ -193,7 +193,7 @@ exponent_run_found (c ∷ d ∷ t) rest after all e = go (is_exponent_letter c &
         }
 
 -- an exponent that is read is one
-pub exponent_found : (ts rest : List Token) → AllFormed ts → behind_exponent ts ≡ Some rest → Reads IsExponent ts rest
+pub exponent_found : (ts rest : List Token) → AllFormed ts → behind_exponent ts ≡ Some rest → BeginsWith IsExponent ts rest
 exponent_found ts rest all e =
     let w = went (run_here ts) (λ r. behind_exponent_run r.0 r.1) rest e in
     let r = run_found ts w.from all w.was in
@@ -205,10 +205,10 @@ abbrev IsAnyExponent : List ℕ → Type 0
 IsAnyExponent text = (text ≡ []) ⊎ IsExponent text
 
 -- an exponent, or none
-any_exponent_found : (ts : List Token) → AllFormed ts → Reads IsAnyExponent ts (or_all ts (behind_exponent ts))
+any_exponent_found : (ts : List Token) → AllFormed ts → BeginsWith IsAnyExponent ts (or_all ts (behind_exponent ts))
 any_exponent_found ts all = go (behind_exponent ts) refl
   where
-    go : (o : Option (List Token)) → behind_exponent ts ≡ o → Reads IsAnyExponent ts (or_all ts o)
+    go : (o : Option (List Token)) → behind_exponent ts ≡ o → BeginsWith IsAnyExponent ts (or_all ts o)
     go None e = record { text = []; behind = nothing_read ts all; is = inl refl }
     go (Some rest) e = let x = exponent_found ts rest all e in record { text = x.text; behind = x.behind; is = inr x.is }
 
@@ -236,7 +236,7 @@ number_not_empty (c ∷ t) u e none = absurd cc
 
 -- what follows digits and belongs to their number
 abbrev Digits : List ℕ → List Token → Number × List Token → Type 0
-Digits d rest n = Reads (λ u. IsNumberText n.0 (d ++ u)) rest n.1
+Digits d rest n = BeginsWith (λ u. IsNumberText n.0 (d ++ u)) rest n.1
 
 -- digits with nothing more are an integer constant
 no_more_digits : (d : List ℕ) (rest : List Token) → is_number d ≡ true → AllFormed rest → Digits d rest (reading.whole d, rest)
@@ -277,16 +277,16 @@ after_digits_found d rest number all = go (behind_exponent rest) (behind_mark 46
     go None None e f = no_more_digits d rest number all
 
 -- a number that is read is an integer constant or a real one
-pub number_found : (ts : List Token) (n : Number × List Token) → AllFormed ts → read_number ts ≡ Some n → Reads (IsNumberText n.0) ts n.1
+pub number_found : (ts : List Token) (n : Number × List Token) → AllFormed ts → read_number ts ≡ Some n → BeginsWith (IsNumberText n.0) ts n.1
 unfolding read_number
 number_found ts n all e = go (digits_here ts) refl e
   where
-    go : (o : Option (List ℕ × List Token)) → digits_here ts ≡ o → number_from ts o ≡ Some n → Reads (IsNumberText n.0) ts n.1
+    go : (o : Option (List ℕ × List Token)) → digits_here ts ≡ o → number_from ts o ≡ Some n → BeginsWith (IsNumberText n.0) ts n.1
     go (Some d) here e =
         let f = digits_found ts d all here in
         let after = behind_digits d.0 d.1 (behind_exponent d.1) (behind_mark 46 d.1) in
         let x = after_digits_found d.0 d.1 f.1 f.0.formed in
-        subst (λ (q : Number × List Token). Reads (IsNumberText q.0) ts q.1) (same_Some after n e) (record { text = d.0 ++ x.text; behind = joined d.0 x.text ts d.1 after.1 f.0 x.behind; is = x.is })
+        subst (λ (q : Number × List Token). BeginsWith (IsNumberText q.0) ts q.1) (same_Some after n e) (record { text = d.0 ++ x.text; behind = joined d.0 x.text ts d.1 after.1 f.0 x.behind; is = x.is })
     go None here e =
         let m = mapped (option_and_then digits_here (behind_mark 46 ts)) (λ d. (real, or_all d.1 (behind_exponent d.1))) n e in
         let w = went (behind_mark 46 ts) digits_here m.from m.was in
@@ -294,7 +294,7 @@ number_found ts n all e = go (digits_here ts) refl e
         let g = digits_found w.from m.from point.formed w.is in
         let x = any_exponent_found m.from.1 g.0.formed in
         let after = or_all m.from.1 (behind_exponent m.from.1) in
-        subst (λ (q : Number × List Token). Reads (IsNumberText q.0) ts q.1) m.is
+        subst (λ (q : Number × List Token). BeginsWith (IsNumberText q.0) ts q.1) m.is
         (record {
           text = 46 ∷ (m.from.0 ++ x.text);
           behind = joined (46 ∷ []) (m.from.0 ++ x.text) ts w.from after point (joined m.from.0 x.text w.from m.from.1 after g.0 x.behind);
@@ -304,7 +304,7 @@ number_found ts n all e = go (digits_here ts) refl e
 -- ---- complex and Hollerith constants
 
 -- a part of a complex constant that is read is one
-pub part_found : (ts rest : List Token) → AllFormed ts → behind_part ts ≡ Some rest → Reads IsPart ts rest
+pub part_found : (ts rest : List Token) → AllFormed ts → behind_part ts ≡ Some rest → BeginsWith IsPart ts rest
 part_found ts rest all e =
     let s = any_sign_found ts all in
     let m = mapped (read_number (behind_sign ts)) (λ n. n.1) rest e in
@@ -320,7 +320,7 @@ part_found ts rest all e =
     numeric real text is = inr is
 
 -- a complex constant that is read is one
-pub complex_found : (ts rest : List Token) → AllFormed ts → behind_complex ts ≡ Some rest → Reads IsComplex ts rest
+pub complex_found : (ts rest : List Token) → AllFormed ts → behind_complex ts ≡ Some rest → BeginsWith IsComplex ts rest
 unfolding behind_complex
 complex_found ts rest all e =
     let d = went (option_and_then behind_part (option_and_then (behind_mark 44) (option_and_then behind_part (behind_mark 40 ts)))) (behind_mark 41) rest e in
@@ -349,7 +349,7 @@ abbrev pub IsKeptText : List ℕ → Type 0
 IsKeptText text = (inside : List ℕ) × (text ≡ 72 ∷ inside) × (list_all is_name_byte inside ≡ true)
 
 -- what is read behind the digits of a Hollerith constant begins with H
-pub hollerith_found : (ts rest : List Token) → AllFormed ts → behind_hollerith ts ≡ Some rest → Reads IsKeptText ts rest
+pub hollerith_found : (ts rest : List Token) → AllFormed ts → behind_hollerith ts ≡ Some rest → BeginsWith IsKeptText ts rest
 hollerith_found ts rest all e =
     let w = went (run_here ts) (λ r. if begins_with_h r.0 then Some r.1 else None) rest e in
     let r = run_found ts w.from all w.was in
@@ -359,6 +359,6 @@ hollerith_found ts rest all e =
     inside [] word is = absurd cc
     inside (c ∷ t) word is = (t, ap (λ (n : ℕ). n ∷ t) (eqb-true c 72 is), (and_parts (is_upper c) (list_all is_name_byte t) word).1)
 
-    go : (text : List ℕ) (after : List Token) (b : Bool) → begins_with_h text ≡ b → (if b then Some after else None) ≡ Some rest → Behind text ts after → is_word text ≡ true → Reads IsKeptText ts rest
+    go : (text : List ℕ) (after : List Token) (b : Bool) → begins_with_h text ≡ b → (if b then Some after else None) ≡ Some rest → Behind text ts after → is_word text ≡ true → BeginsWith IsKeptText ts rest
     go text after false is e behind word = absurd cc
     go text after true is e behind word = record { text = text; behind = subst (Behind text ts) (same_Some after rest e) behind; is = inside text word is }

@@ -1,6 +1,6 @@
 pub mod QuotedText
 pub mod Decimals
-pub mod Words
+pub mod LongNames
 pub mod FirstCharacters
 pub mod GatherLaw
 pub mod Standing

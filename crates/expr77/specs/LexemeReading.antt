@@ -164,9 +164,9 @@ unless_empty [] = None
 unless_empty (c ∷ t) = Some (c ∷ t)
 
 -- the characters that a character constant stands for
-abbrev pub read_characters : List ℕ → Option (List ℕ)
-read_characters [] = None
-read_characters (c ∷ t) = if c == 39 then option_and_then unless_empty (read_quoted false t) else None
+abbrev pub quoted_value : List ℕ → Option (List ℕ)
+quoted_value [] = None
+quoted_value (c ∷ t) = if c == 39 then option_and_then unless_empty (read_quoted false t) else None
 
 -- an operator or logical constant between points
 abbrev pub read_word : List ℕ → Option Lexeme
@@ -251,7 +251,7 @@ name_at t rest = if is_word t then Some (name t, rest) else None
 
 -- a kept text that is a character constant
 abbrev pub characters_at : List ℕ → List Token → Found
-characters_at t rest = option_map (λ v. (characters v, rest)) (read_characters t)
+characters_at t rest = option_map (λ v. (characters v, rest)) (quoted_value t)
 
 -- a token of this kind and text, where all tokens and those behind it are given
 abbrev pub read_token : Stand → TokenKind → List ℕ → List Token → List Token → Found

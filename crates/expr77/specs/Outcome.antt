@@ -16,12 +16,12 @@ pub data Outcome : Type 0 where
   refused : Part → Outcome
 
 -- the tree of some lexemes, and the lowest part of them and of what was before them
-abbrev pub tree_of : ℕ → Option Part → List Lexeme → Option (Expr × Option Part)
-tree_of depth lowest lexemes = option_map (λ x. (x, keep lowest (parts_from depth lexemes))) (build (map symbol_of lexemes))
+abbrev pub tree_and_lowest : ℕ → Option Part → List Lexeme → Option (Expr × Option Part)
+tree_and_lowest depth lowest lexemes = option_map (λ x. (x, keep lowest (parts_from depth lexemes))) (build (map symbol_of lexemes))
 
 -- the expression of some tokens, where so many parentheses are open before them, and this part is the lowest so far
 abbrev pub expression_of : ℕ → Option Part → List Token → Option (Expr × Option Part)
-expression_of depth lowest tokens = option_and_then (tree_of depth lowest) (lexemes_of tokens)
+expression_of depth lowest tokens = option_and_then (tree_and_lowest depth lowest) (lexemes_of tokens)
 
 -- the tree, unless the expression or a part of it is refused
 abbrev pub outcome_from : List Token → Option (Expr × Option Part) → Outcome

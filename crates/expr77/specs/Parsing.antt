@@ -1,5 +1,5 @@
 -- What the answers of the readers of expressions say.
-use Rattle.std.specs.Prelude.{◌≡◌, ◌++◌, ℕ, List, [], ◌∷◌, Option, Result, Ok, Err}
+use Rattle.std.specs.Prelude.{◌≡◌, ◌++◌, ℕ, List, [], ◌∷◌, Option, Some, None, Result, Ok, Err}
 use Rattle.text_base.specs.Pieces.{Piece}
 use Rattle.text_base.specs.Trees as plain
 use Rattle.text_base.specs.declared.refusal.Place.{Place}
@@ -19,6 +19,12 @@ CarriesOn lowest parts next = (before : List Part) → lowest ≡ first_lowest b
 -- The pieces spell the expression, where so many parentheses are open before it, and the lowest part so far is carried on.
 abbrev pub IsReadFrom : ℕ → Option Part → List Piece → plain.Expr → Option Part → Type 0
 IsReadFrom depth lowest pieces x next = (lexemes : List Lexeme) × IsWideExpression pieces lexemes x × CarriesOn lowest (parts_from depth lexemes) next
+
+-- no expression was read: the tokens are none, or memory is wanted
+abbrev pub IsNotRead : {E : Type 0} → Result (Option Expr) E → Type 0
+IsNotRead (Ok (Some x)) = ⊥
+IsNotRead (Ok None) = Unit {0}
+IsNotRead (Err e) = Unit {0}
 
 -- one refusal, of this part
 abbrev pub IsRefusal : Place → List Refusal → Part → Type 0

@@ -4,7 +4,7 @@ use Rattle.std.specs.Option.{option_map}
 use Rattle.expr_tree.specs.Plain.{binary_of}
 use Rattle.tree77.specs.Lexemes as plain
 use Rattle.scan77.specs.Token.{tokens_of}
-use Rattle.group77.specs.Symbol.{symbol_of}
+use Rattle.group77.specs.Symbol.{grammar_symbol}
 use Rattle.expr77.specs.LexemeReading as reading
 use Rattle.expr77.specs.Gathering as gathering
 use Rattle.expr77.specs.declared.gathering.Gathered.{Gathered}
@@ -14,8 +14,8 @@ use Rattle.expr77.specs.declared.lexeme.Lexeme.TheVariants as lexeme
 use Rattle.expr77.specs.declared.number.Number.{Number}
 use Rattle.expr77.specs.declared.number.Number.TheVariants as number
 use Rattle.expr77.specs.declared.part.Part.{Part}
-use Rattle.expr77.specs.declared.reading.Stand.{Stand}
-use Rattle.expr77.specs.declared.reading.Stand.TheVariants as stand
+use Rattle.expr77.specs.declared.lexeme_reading.Stand.{Stand}
+use Rattle.expr77.specs.declared.lexeme_reading.Stand.TheVariants as stand
 
 abbrev pub number_of : Number → reading.Number
 number_of (number.Whole digits) = reading.whole digits.now
@@ -35,13 +35,13 @@ lexeme_of lexeme.Close = plain.closing
 lexeme_of lexeme.Comma = plain.comma
 lexeme_of lexeme.Colon = plain.colon
 
-abbrev pub part_of : Part → plain.Part
-part_of part = record { cause = part.cause; shown = part.shown.now }
+abbrev pub plain_part : Part → plain.Part
+plain_part part = record { cause = part.cause; shown = part.shown.now }
 
 -- no part or one, as a list
-abbrev pub parts_of : Option Part → List plain.Part
-parts_of None = []
-parts_of (Some part) = part_of part ∷ []
+abbrev pub plain_parts : Option Part → List plain.Part
+plain_parts None = []
+plain_parts (Some part) = plain_part part ∷ []
 
 abbrev pub stand_of : Stand → reading.Stand
 stand_of stand.Argument = reading.at_argument
@@ -49,8 +49,8 @@ stand_of stand.Operand = reading.at_operand
 stand_of stand.After = reading.after_operand
 
 abbrev pub gathered_of : Gathered → gathering.Gathered
-gathered_of g = record { symbols = map symbol_of g.symbols; lowest = option_map part_of g.lowest }
+gathered_of g = record { symbols = map grammar_symbol g.symbols; lowest = option_map plain_part g.lowest }
 
 -- what has been gathered, with the lexemes of the tokens that are left, in so many turns
-abbrev pub left_of : ℕ → Reading → Option gathering.Gathered
-left_of n r = option_map (gathering.with_lexemes (gathered_of r.gathered) r.depth) (reading.read_lexemes n (stand_of r.stand) (tokens_of r.rest.now))
+abbrev pub gathered_in : ℕ → Reading → Option gathering.Gathered
+gathered_in n r = option_map (gathering.with_lexemes (gathered_of r.gathered) r.depth) (reading.read_lexemes n (stand_of r.stand) (tokens_of r.rest.now))

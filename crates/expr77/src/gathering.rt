@@ -4,16 +4,16 @@ ghost use Rattle.std.specs.Option.{option_map};
 ghost use Rattle.text_base.specs.declared.limits.TheConstants.{LONGEST_NAME};
 ghost use Rattle.tree77.specs.Lexemes as plain;
 ghost use Rattle.scan77.specs.Token.{tokens_of};
-ghost use Rattle.group77.specs.Symbol.{symbol_of};
+ghost use Rattle.group77.specs.Symbol.{grammar_symbol};
 ghost use Rattle.expr77.specs.Gathering.{with_lexemes, nothing_gathered};
 ghost use Rattle.expr77.specs.LexemeReading as reading;
 ghost use Rattle.expr77.specs.LexemeReading.{lexemes_of};
-ghost use Rattle.expr77.specs.Views.{lexeme_of, part_of, stand_of, gathered_of, left_of};
+ghost use Rattle.expr77.specs.Views.{lexeme_of, plain_part, stand_of, gathered_of, gathered_in};
 
 use crate::lexeme::Lexeme;
+use crate::lexeme_reading::{Stand, lexeme_here, stand_behind};
+use crate::long_name::LongName;
 use crate::part::{Part, first, lower_part, refused_part, small_value};
-use crate::reading::{Stand, lexeme_here, stand_behind};
-use crate::word::Word;
 use expr_tree::Expr;
 use group77::{Symbol, Symbols};
 use scan77::Token;
@@ -29,18 +29,18 @@ pub struct Gathered<'a> {
     pub lowest: Option<Part<'a>>,
 }
 
-/// The name that stands for a word: its first characters, as many as a name may have.
-#[tactic(auto, using(crate::proofs::Words::first_is_name))]
-fn name_of(word: &Word<'_>) -> Name
-    ensures { result ≡ take LONGEST_NAME word.now }
+/// The name that stands for one of any length: its first characters, as many as a name may have.
+#[tactic(auto, using(crate::proofs::LongNames::first_is_name))]
+fn name_of(long: &LongName<'_>) -> Name
+    ensures { result ≡ take LONGEST_NAME long.now }
 {
-    Name::new(first(word.as_slice(), LONGEST_NAME))
+    Name::new(first(long.as_slice(), LONGEST_NAME))
 }
 
 /// The integer constant of some digits, 0 where it is too great.
 #[tactic(auto, using(expr_tree::proofs::Equations::expr_equations))]
 fn integer(digits: &[u8]) -> Symbol
-    ensures { symbol_of result ≡ plain.symbol_of (plain.integer digits.now) }
+    ensures { grammar_symbol result ≡ plain.symbol_of (plain.integer digits.now) }
 {
     match small_value(digits) {
         Some(value) => Symbol::Operand(Expr::Int(value)),
@@ -51,14 +51,14 @@ fn integer(digits: &[u8]) -> Symbol
 /// The symbol of a lexeme. A part that is refused has one that may stand in its place.
 #[tactic(auto, using(expr_tree::proofs::Equations::expr_equations))]
 fn symbol(lexeme: Lexeme<'_>) -> Symbol
-    ensures { symbol_of result ≡ plain.symbol_of (lexeme_of lexeme.entry) }
+    ensures { grammar_symbol result ≡ plain.symbol_of (lexeme_of lexeme.entry) }
 {
     match lexeme {
         Lexeme::Integer(digits) => integer(digits),
         Lexeme::Constant => Symbol::Operand(Expr::Int(0)),
         Lexeme::Logical(value) => Symbol::Operand(Expr::Bool(value)),
         Lexeme::Characters(text) => Symbol::Operand(Expr::Text(text)),
-        Lexeme::Name(word) => Symbol::Operand(Expr::Name(name_of(&word))),
+        Lexeme::Name(long) => Symbol::Operand(Expr::Name(name_of(&long))),
         Lexeme::Alternate => Symbol::Alternate,
         Lexeme::Operator(operator) => Symbol::Operator(operator),
         Lexeme::Not => Symbol::Not,
@@ -114,7 +114,7 @@ impl<'t, 'a> Reading<'t, 'a> {
     fn next(&mut self, alloc: Global) -> Result<bool, AllocError>
         requires some { 0 < length self.old.rest.now }
         requires room { self.old.depth + 1 < 2 ^ 64 }
-        ensures read { IfOk result (λ found. (n : ℕ) → left_of (suc n) self.old ≡ (if found then left_of n self.new else None)) }
+        ensures read { IfOk result (λ found. (n : ℕ) → gathered_in (suc n) self.old ≡ (if found then gathered_in n self.new else None)) }
         ensures bound { OnOk result (self.new.depth ≤ self.old.depth + 1) }
     {
         let Some((lexeme, rest)) = lexeme_here(alloc, self.stand, self.rest)? else {
@@ -126,7 +126,7 @@ impl<'t, 'a> Reading<'t, 'a> {
 }
 
 /// The lexemes of an expression, gathered, where so many parentheses are open before it, and this part is the lowest so far.
-/// `None` where the tokens are no lexemes. It fails for want of memory alone.
+/// `None` where the tokens are no lexemes. An error comes only where memory is wanted.
 pub fn gather<'a>(
     alloc: Global,
     depth: usize,
@@ -135,7 +135,7 @@ pub fn gather<'a>(
 ) -> Result<Option<Gathered<'a>>, AllocError>
     requires { depth + length tokens.now < 2 ^ 64 }
     ensures { IfOk result (λ made. option_map gathered_of made
-        ≡ option_map (with_lexemes (nothing_gathered (option_map part_of lowest.entry)) depth) (lexemes_of (tokens_of tokens.now))) }
+        ≡ option_map (with_lexemes (nothing_gathered (option_map plain_part lowest.entry)) depth) (lexemes_of (tokens_of tokens.now))) }
 {
     let symbols = Items::new(alloc);
     let mut reading = Reading {

@@ -1,5 +1,5 @@
 // The lexemes of an expression.
-use crate::word::Word;
+use crate::long_name::LongName;
 use expr_tree::BinaryOp;
 use text_base::Bytes;
 
@@ -12,7 +12,7 @@ pub enum Lexeme<'a> {
     Constant,
     Logical(bool),
     Characters(Bytes),
-    Name(Word<'a>),
+    Name(LongName<'a>),
     Alternate,
     Operator(BinaryOp),
     Not,

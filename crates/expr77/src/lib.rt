@@ -1,15 +1,15 @@
-//! Expressions of FORTRAN 77: their lexemes, and the trees that they are.
+//! Expressions of FORTRAN 77: from their tokens by their lexemes to their trees (`parse_expr`, `read_expr`).
 #![tactic(auto)]
 
 mod gathering;
 mod laws;
 mod lexeme;
+mod lexeme_reading;
+mod long_name;
 mod number;
 mod parse_error;
 mod parsing;
 mod part;
-mod reading;
-mod word;
 
 pub use laws::{expressions_are_cut, expressions_stop, one_expression, outcomes_are_spelled};
 pub use parse_error::ParseError;

@@ -6,14 +6,14 @@ use std::alloc::AllocError;
 use text_base::Refusals;
 use thiserror::Error;
 
-/// Why tokens aren't read as an expression: they are refused, or memory is wanting.
+/// Why tokens aren't read as an expression.
 #[derive(Debug, Drop, Error)]
 pub enum ParseError {
-    /// The tokens are refused. The list has one refusal.
+    /// The tokens are refused: they spell no expression, or a part of it is refused. The list has one refusal.
     #[error("the tokens are refused as an expression")]
     Refused(Refusals),
-    /// Want of memory. Nothing is known of the tokens.
-    #[error("memory is wanting")]
+    /// Memory is wanted. Nothing is known of the tokens.
+    #[error("memory is wanted")]
     Memory,
 }
 

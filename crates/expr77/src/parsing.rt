@@ -11,25 +11,25 @@ ghost use Rattle.tree77.specs.Lexemes as plain;
 ghost use Rattle.tree77.specs.Lexemes.{Lexeme, IsWideExpression, SpellsExpression, IsRefusedExpression};
 ghost use Rattle.scan77.specs.Token.{tokens_of};
 ghost use Rattle.group77.specs.Building as building;
-ghost use Rattle.group77.specs.Symbol.{symbol_of};
+ghost use Rattle.group77.specs.Symbol.{grammar_symbol};
 ghost use Rattle.expr77.specs.Outcome.{expression_of, outcome_of};
-ghost use Rattle.expr77.specs.Parsing.{IsReadFrom, IsRefusal, IsOutcome, Parses, IsTree, IsPart};
-ghost use Rattle.expr77.specs.Views.{part_of};
+ghost use Rattle.expr77.specs.Parsing.{IsReadFrom, IsNotRead, IsRefusal, IsOutcome, Parses, IsTree, IsPart};
+ghost use Rattle.expr77.specs.Views.{plain_part};
 
 use crate::gathering::{Gathered, gather};
 use crate::laws::{one_expression, outcomes_are_spelled};
 use crate::parse_error::ParseError;
 use crate::part::{Part, first};
 use expr_tree::Expr;
-use group77::{Stop, Symbols, build, grouped_expressions};
+use group77::{BuildError, Symbols, build, grouped_expressions};
 use scan77::{Token, one_cut};
 use sqlite_items::Items;
 use std::alloc::{AllocError, Global};
 use text_base::limits::MOST_SHOWN;
 use text_base::{Bytes, Cause, Place, Refusal, Refusals};
 
-/// What a reader of a statement knows where an expression begins: how many parentheses are open around it, and the lowest
-/// refused part so far, if there is one.
+/// What a reader of a statement knows where an expression begins: how many parentheses are open around it, which count for
+/// how deep those in it are nested, and the refused part of the lowest cause so far, if there is one.
 #[derive(Clone, Copy)]
 pub struct Progress<'a> {
     pub depth: usize,
@@ -38,13 +38,13 @@ pub struct Progress<'a> {
 
 /// The tree of some symbols. `None` where they are no expression.
 fn tree_of(alloc: Global, symbols: Symbols) -> Result<Option<Expr>, AllocError>
-    ensures { IfOk result (λ made. option_map expr_of made ≡ building.build (map symbol_of symbols)) }
+    ensures { IfOk result (λ made. option_map expr_of made ≡ building.build (map grammar_symbol symbols)) }
 {
     grouped_expressions();
     match build(alloc, symbols) {
         Ok(tree) => Ok(Some(tree)),
-        Err(Stop::NotSpelled) => Ok(None),
-        Err(Stop::Memory) => Err(AllocError),
+        Err(BuildError::NotSpelled) => Ok(None),
+        Err(BuildError::Memory) => Err(AllocError),
     }
 }
 
@@ -55,8 +55,8 @@ fn read<'a>(
     tokens: &[Token<'a>],
 ) -> Result<Option<(Expr, Option<Part<'a>>)>, AllocError>
     requires { before.depth + length tokens.now < 2 ^ 64 }
-    ensures { IfOk result (λ made. option_map (λ p. (expr_of p.0, option_map part_of p.1)) made
-        ≡ expression_of before.entry.depth (option_map part_of before.entry.lowest) (tokens_of tokens.now)) }
+    ensures { IfOk result (λ made. option_map (λ p. (expr_of p.0, option_map plain_part p.1)) made
+        ≡ expression_of before.entry.depth (option_map plain_part before.entry.lowest) (tokens_of tokens.now)) }
 {
     let Some(gathered) = gather(alloc, before.depth, before.lowest, tokens)? else {
         return Ok(None);
@@ -70,11 +70,13 @@ fn read<'a>(
 
 /// Reads exactly one expression from all the tokens (X3.9 section 6), which stands in a statement.
 ///
-/// In: what is known where it begins, and its tokens. What the clauses say holds where some pieces are cut into them.
+/// In: what is known where it begins, and its tokens, as those that `cut` gives: `found` and `none` speak of tokens that some
+/// pieces are cut into. The open parentheses and the tokens together are fewer than 2 ^ 64, so that they can be counted.
 ///
 /// Out: the tree, where the tokens are an expression in which each refused part stands for one that may stand in its place,
-/// and then `progress` has the lowest part so far, those of the expression among them; `None` where they are no such
-/// expression. It fails for want of memory alone.
+/// and then `progress` has the lowest part so far, those of the expression among them; or `None`, exactly where they are no
+/// such expression. An error comes only where memory is wanted, and may come in place of either. After `None` and after an
+/// error `progress` is unchanged; its depth always is.
 pub fn read_expr<'a>(
     alloc: Global,
     progress: &mut Progress<'a>,
@@ -82,9 +84,10 @@ pub fn read_expr<'a>(
 ) -> Result<Option<Expr>, AllocError>
     requires { progress.old.depth + length tokens.now < 2 ^ 64 }
     ensures found { (pieces : List Piece) → IsCut pieces (tokens_of tokens.now)
-        → IfOk result (λ made. IfSome made (λ x. IsReadFrom progress.old.depth (option_map part_of progress.old.lowest) pieces (expr_of x) (option_map part_of progress.new.lowest))) }
+        → IfOk result (λ made. IfSome made (λ x. IsReadFrom progress.old.depth (option_map plain_part progress.old.lowest) pieces (expr_of x) (option_map plain_part progress.new.lowest))) }
     ensures none { (pieces : List Piece) → IsCut pieces (tokens_of tokens.now) → result ≡ Ok None → (lexemes : List Lexeme) (x : tree.Expr) → IsWideExpression pieces lexemes x → ⊥ }
-    ensures depth { OnOk result (progress.new.depth ≡ progress.old.depth) }
+    ensures unchanged { IsNotRead result → progress.new ≡ progress.old }
+    ensures depth { progress.new.depth ≡ progress.old.depth }
 {
     one_cut();
     grouped_expressions();
@@ -135,7 +138,7 @@ fn not_spelled(alloc: Global, place: Place, tokens: &[Token<'_>]) -> Result<Refu
 
 /// The refusal of a part.
 fn part_refused(alloc: Global, place: Place, part: Part<'_>) -> Result<Refusals, AllocError>
-    ensures { IfOk result (λ made. IsRefusal place made (part_of part.entry)) }
+    ensures { IfOk result (λ made. IsRefusal place made (plain_part part.entry)) }
 {
     let name = Bytes::from_slice(alloc, part.shown)?;
     refusal(alloc, place, part.cause, name)
@@ -160,14 +163,15 @@ fn outcome(alloc: Global, place: Place, tokens: &[Token<'_>]) -> Result<Expr, Pa
 
 /// Reads exactly one expression from all the tokens (X3.9 section 6).
 ///
-/// In: the place of a statement, and the tokens of it or of a part of it. What the clauses say holds where some pieces are
-/// cut into them.
+/// In: the place of a statement, and the tokens of it or of a part of it, as those that `cut` gives: the clauses speak of
+/// tokens that some pieces are cut into.
 ///
-/// Out: the tree; or `Refused`, with one refusal at the place: `NotAStatement` where the tokens spell no expression, even
-/// where a part that is refused may stand in it (the name is the first 12 characters of the tokens), else the part of the
-/// lowest cause that stands in them, among equal ones the first: `Unsupported` (CONSTANT for a real, complex or Hollerith
-/// constant, RETURN for an alternate return specifier, DEPTH for more than 200 nested parentheses), `ConstantRange` (the
-/// first 12 digits) or `NameTooLong` (the first 31 characters); or `Memory`, for want of memory.
+/// Out: the tree, exactly where the tokens spell an expression of which no part is refused; or else `Refused`, with one
+/// refusal at the place: `NotAStatement` where the tokens spell no expression, even where a part that is refused may stand in
+/// it (the name is the first 12 characters of the tokens), else the part of the lowest cause that stands in them, among equal
+/// ones the first: `Unsupported` (CONSTANT for a real, complex or Hollerith constant, RETURN for an alternate return
+/// specifier, DEPTH for more than 200 nested parentheses), `ConstantRange` (the first 12 digits) or `NameTooLong` (the first
+/// 31 characters). `Memory`, where memory is wanted, may come in place of either.
 pub fn parse_expr(alloc: Global, place: Place, tokens: &[Token<'_>]) -> Result<Expr, ParseError>
     ensures found { (pieces : List Piece) → IsCut pieces (tokens_of tokens.now) → Parses place pieces result }
     ensures spelled { (pieces : List Piece) (x : tree.Expr) → IsCut pieces (tokens_of tokens.now) → SpellsExpression pieces x → IsTree x result }

@@ -3,14 +3,14 @@ ghost use Rattle.std.specs.Prelude.{◌≡◌, ◌∷◌, [], pos, take, Some, N
 ghost use Rattle.std.specs.Option.{option_map};
 ghost use Rattle.tree77.specs.Lexemes as plain;
 ghost use Rattle.expr77.specs.Gathering.{keep};
-ghost use Rattle.expr77.specs.Views.{lexeme_of, part_of, parts_of};
+ghost use Rattle.expr77.specs.Views.{lexeme_of, plain_part, plain_parts};
 ghost use Rattle.text_base.specs.declared.refusal.Cause.TheVariants.{Unsupported};
 
 use crate::lexeme::Lexeme;
 use text_base::Cause;
 use text_base::limits::{DEEPEST_NESTING, GREATEST_INTEGER, LONGEST_NAME, MOST_SHOWN};
 
-/// A part of an expression that is refused: why, and the name that the refusal shows.
+/// A part of an expression that is refused: its cause, and the characters that the refusal shows as its name.
 #[derive(Clone, Copy)]
 pub struct Part<'a> {
     pub cause: Cause,
@@ -40,7 +40,7 @@ pub fn first(text: &[u8], count: usize) -> &[u8]
 }
 
 fn unsupported<'a>(word: &'a str) -> Option<Part<'a>>
-    ensures { parts_of result ≡ record { cause = Unsupported; shown = word.now } ∷ [] }
+    ensures { plain_parts result ≡ record { cause = Unsupported; shown = word.now } ∷ [] }
 {
     Some(Part {
         cause: Cause::Unsupported,
@@ -50,7 +50,7 @@ fn unsupported<'a>(word: &'a str) -> Option<Part<'a>>
 
 /// The refused part that a lexeme is, where so many parentheses are open before it.
 pub fn refused_part<'a>(depth: usize, lexeme: &Lexeme<'a>) -> Option<Part<'a>>
-    ensures { parts_of result ≡ plain.part_of depth (lexeme_of lexeme.now) }
+    ensures { plain_parts result ≡ plain.part_of depth (lexeme_of lexeme.now) }
 {
     match lexeme {
         Lexeme::Integer(digits) => {
@@ -64,13 +64,13 @@ pub fn refused_part<'a>(depth: usize, lexeme: &Lexeme<'a>) -> Option<Part<'a>>
         }
         Lexeme::Constant => unsupported("CONSTANT"),
         Lexeme::Alternate => unsupported("RETURN"),
-        Lexeme::Name(word) => {
-            if word.as_slice().len() <= LONGEST_NAME {
+        Lexeme::Name(name) => {
+            if name.as_slice().len() <= LONGEST_NAME {
                 return None;
             }
             Some(Part {
                 cause: Cause::NameTooLong,
-                shown: first(word.as_slice(), LONGEST_NAME),
+                shown: first(name.as_slice(), LONGEST_NAME),
             })
         }
         Lexeme::Open => {
@@ -91,7 +91,7 @@ pub fn refused_part<'a>(depth: usize, lexeme: &Lexeme<'a>) -> Option<Part<'a>>
 
 /// The part of the lower cause; the first of equal ones.
 pub fn lower_part<'a>(kept: Option<Part<'a>>, part: Option<Part<'a>>) -> Option<Part<'a>>
-    ensures { option_map part_of result ≡ keep (option_map part_of kept.entry) (parts_of part.entry) }
+    ensures { option_map plain_part result ≡ keep (option_map plain_part kept.entry) (plain_parts part.entry) }
 {
     let Some(part) = part else {
         return kept;

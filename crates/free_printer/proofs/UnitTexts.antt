@@ -9,7 +9,7 @@ use Rattle.tree90.specs.declared.tree.Declared90.{Declared90}
 use Rattle.tree90.specs.declared.tree.Unit90.{Unit90}
 use Rattle.tree90.specs.declared.tree.Type90.{Type90}
 use Rattle.tree90.specs.declared.tree.Type90.TheVariants.{Integer}
-use Rattle.tree90.specs.Plain.{Listed, stmt_of, body_of, listed_of, object_of, declared_of, unit_of}
+use Rattle.tree90.specs.Plain.{CodeAndTail, stmt_of, body_of, listed_of, object_of, declared_of, unit_of}
 use Rattle.tree90.specs.Printed.{line, stmt_text, code_text, declared_text, unit_text}
 use Rattle.free_printer.specs.Statement.{item_text}
 
@@ -18,11 +18,11 @@ pub object_text : (kind : Type90) (x : List ℕ) → declared_text (object_of ki
 object_text Integer x = refl
 
 -- the text of a list, and then of the comments that no statement of it follows
-abbrev listed_text : ℕ → Listed → List ℕ
+abbrev listed_text : ℕ → CodeAndTail → List ℕ
 listed_text level l = code_text level l.0 ++ remarks_text l.1
 
 -- the statements of an item with the comments before them, and then the items that follow
-body_text : (level : ℕ) (remarks : List Remark) (ss : List Stmt90) (rest : List Remark → Listed) (last : List ℕ)
+body_text : (level : ℕ) (remarks : List Remark) (ss : List Stmt90) (rest : List Remark → CodeAndTail) (last : List ℕ)
     → ((left : List Remark) → listed_text level (rest left) ≡ remarks_text left ++ last)
     → listed_text level (body_of remarks ss rest) ≡ remarks_text remarks ++ (flat_map (stmt_text level) (map stmt_of ss) ++ last)
 body_text level remarks [] rest last follows = follows remarks

@@ -4,7 +4,7 @@ use Rattle.std.specs.Option.{option_map}
 use Rattle.std.proofs.lemmas.List.{map-append}
 use Rattle.tree77.specs.Expressions.{Symbol}
 use Rattle.group77.specs.Building.{grouping, Level, split_last, with_last, ends, is_after, is_after_last, open_level, behind_symbol, opening_at}
-use Rattle.group77.specs.Symbol.{symbol_of}
+use Rattle.group77.specs.Symbol.{grammar_symbol}
 use Rattle.group77.specs.BuilderViews.{level_of, opening_of, is_listing, is_in_list}
 use Rattle.group77.specs.declared.symbol.Symbol as code
 use Rattle.group77.specs.declared.builder.Level as stacked
@@ -20,8 +20,8 @@ last_splits (b ∷ before) s = ap (with_last b) (last_splits before s)
 pub after_last : (before : List Symbol) (s : Symbol) → is_after (before ++ s ∷ []) ≡ ends s
 after_last before s = ap is_after_last (last_splits before s)
 
-pub last_splits_seen : (before : List code.Symbol) (s : code.Symbol) → split_last (map symbol_of (before ++ s ∷ [])) ≡ Some (map symbol_of before, symbol_of s)
-last_splits_seen before s = ap split_last (map-append symbol_of before (s ∷ [])) ∙ last_splits (map symbol_of before) (symbol_of s)
+pub last_splits_seen : (before : List code.Symbol) (s : code.Symbol) → split_last (map grammar_symbol (before ++ s ∷ [])) ≡ Some (map grammar_symbol before, grammar_symbol s)
+last_splits_seen before s = ap split_last (map-append grammar_symbol before (s ∷ [])) ∙ last_splits (map grammar_symbol before) (grammar_symbol s)
 
 last_parts : {A : Type 0} (xs : List A) (x : A) → slice_get xs (length xs - 1) ≡ Some x → (before : List A) × (xs ≡ before ++ x ∷ [])
 last_parts [] x is = absurd (cc)
@@ -32,10 +32,10 @@ last_parts (y ∷ z ∷ zs) x is =
     (y ∷ rest.0, ap (λ v. y ∷ v) rest.1)
 
 -- whether an operand stands last is told by the last symbol
-pub last_ends : (symbols : List code.Symbol) (s : code.Symbol) → slice_get symbols (length symbols - 1) ≡ Some s → is_after (map symbol_of symbols) ≡ ends (symbol_of s)
+pub last_ends : (symbols : List code.Symbol) (s : code.Symbol) → slice_get symbols (length symbols - 1) ≡ Some s → is_after (map grammar_symbol symbols) ≡ ends (grammar_symbol s)
 last_ends symbols s is =
     let parts = last_parts symbols s is in
-    ap is_after_last (ap (λ (x : List code.Symbol). split_last (map symbol_of x)) parts.1 ∙ last_splits_seen parts.0 s)
+    ap is_after_last (ap (λ (x : List code.Symbol). split_last (map grammar_symbol x)) parts.1 ∙ last_splits_seen parts.0 s)
 
 -- behind no operand a parenthesis opens a group
 pub opens_group : (e : Bool) (ls : List Level) (symbols : List Symbol) → is_after symbols ≡ false → opening_at e ls symbols (split_last symbols) ≡ Some (open_level ls symbols grouping)
@@ -45,11 +45,11 @@ opens_group e ls symbols not_after = go (split_last symbols) not_after where
   go (Some (before, s)) h = rw h refl
 
 -- behind an operand it belongs to it
-pub opens_behind : (e : Bool) (ls : List Level) (symbols before : List code.Symbol) (s : code.Symbol) → symbols ≡ before ++ s ∷ [] → is_after (map symbol_of symbols) ≡ true
-    → opening_at e ls (map symbol_of symbols) (split_last (map symbol_of symbols)) ≡ option_map (open_level ls (map symbol_of before)) (behind_symbol e (symbol_of s))
+pub opens_behind : (e : Bool) (ls : List Level) (symbols before : List code.Symbol) (s : code.Symbol) → symbols ≡ before ++ s ∷ [] → is_after (map grammar_symbol symbols) ≡ true
+    → opening_at e ls (map grammar_symbol symbols) (split_last (map grammar_symbol symbols)) ≡ option_map (open_level ls (map grammar_symbol before)) (behind_symbol e (grammar_symbol s))
 opens_behind e ls symbols before s is after =
-    let splits = ap (λ (x : List code.Symbol). split_last (map symbol_of x)) is ∙ last_splits_seen before s in
-    let ends_there : ends (symbol_of s) ≡ true = sym (ap is_after_last splits) ∙ after in
+    let splits = ap (λ (x : List code.Symbol). split_last (map grammar_symbol x)) is ∙ last_splits_seen before s in
+    let ends_there : ends (grammar_symbol s) ≡ true = sym (ap is_after_last splits) ∙ after in
     rw (splits, ends_there) refl
 
 -- ---- the innermost parenthesis

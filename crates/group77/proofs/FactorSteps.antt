@@ -52,7 +52,7 @@ factor_fails (s ∷ ts) h = refl
 
 -- an operand without a power is a factor
 pub factor_alone : (ts r : List Symbol) (x : Expr) → read_operand ts ≡ Some (x, r) → behind_operator is_power r ≡ None → read_factor ts ≡ Some (x, r)
-factor_alone ts r x h stops = factor_behind ts r x h ∙ ap (power_at x r) stops
+factor_alone ts r x h build_error = factor_behind ts r x h ∙ ap (power_at x r) build_error
 
 -- an operand and a power of it
 pub power_reads : (ts r u v : List Symbol) (x y z : Expr) (o : BinaryOp) → read_operand ts ≡ Some (x, r) → behind_operator is_power r ≡ Some (o, u) → read_factor u ≡ Some (y, v) → z ≡ binary o x y

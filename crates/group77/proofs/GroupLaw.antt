@@ -9,7 +9,7 @@ use Rattle.text_base.specs.Trees.{plus, minus, negation, BinaryOp, power, times,
 use Rattle.text_base.proofs.Optional.{went, mapped}
 use Rattle.tree77.specs.Expressions.{Symbol, operand, operator, not_sign, Grammar, is_product, is_sum, is_concat, is_relation, is_conjunction, is_disjunction, is_equivalence, sign_symbol, Chain, chain_one, chain_more, Factor, factor_one, factor_power, Term, Signed, signed_none, signed_by, Sum, Concatenation, Relation, relation_one, relation_two, Negation, negation_none, negation_by, Conjunction, Disjunction, Equivalence}
 use Rattle.group77.specs.Grouping.{Reader, behind_operator, is_power, read_factor, more_at, read_more, read_chain, read_term, sign_of, signed_at, read_signed, read_sum, read_concatenation, related, read_relation, behind_not, negated_at, read_negation, read_conjunction, read_disjunction, read_equivalence, ended, group}
-use Rattle.group77.specs.Symbol.{symbol_of}
+use Rattle.group77.specs.Symbol.{grammar_symbol}
 use Rattle.group77.specs.declared.symbol.Symbol as code
 use Rattle.group77.proofs.GroupSteps.{operator_found, operator_stands, operator_fails, either, neither}
 use Rattle.group77.proofs.FactorSteps.{is_the_power, power_at, factor_is}
@@ -332,6 +332,6 @@ group_one (operator subtract) = refl
 group_one (operator o) = refl
 group_one s = refl
 
-pub one_grouped : (symbols before : List code.Symbol) (s : code.Symbol) → symbols ≡ before ++ s ∷ [] → length symbols ≡ 1 → group (map symbol_of symbols) ≡ tree_alone (symbol_of s)
-one_grouped symbols [] s is one = ap (λ w. group (map symbol_of w)) is ∙ group_one (symbol_of s)
+pub one_grouped : (symbols before : List code.Symbol) (s : code.Symbol) → symbols ≡ before ++ s ∷ [] → length symbols ≡ 1 → group (map grammar_symbol symbols) ≡ tree_alone (grammar_symbol s)
+one_grouped symbols [] s is one = ap (λ w. group (map grammar_symbol w)) is ∙ group_one (grammar_symbol s)
 one_grouped symbols (b ∷ before) s is one = absurd (omega (arith, ap length is, length-append before (s ∷ [])))

@@ -10,4 +10,3 @@ pub mod BuildDepth
 pub mod BuildComplete
 pub mod BuildSound
 pub mod BuildLaw
-pub mod Nesting

@@ -5,24 +5,24 @@ use Rattle.expr_tree.specs.Plain.{expr_of}
 use Rattle.tree77.specs.Expressions.{Symbol, operator, is_product, is_sum, is_concat, is_relation, is_conjunction, is_disjunction, is_equivalence}
 use Rattle.expr_tree.specs.declared.tree.Expr.{Expr}
 use Rattle.group77.specs.Grouping.{Reader, is_power, is_not, behind_operator, behind_not, read_factor, read_term, read_signed, read_sum, read_concatenation, read_relation, read_negation, read_conjunction, read_disjunction, read_equivalence}
-use Rattle.group77.specs.Symbol.{symbol_of}
+use Rattle.group77.specs.Symbol.{grammar_symbol}
 use Rattle.group77.specs.declared.feed.Feed.{Feed}
 use Rattle.group77.specs.declared.feed.Sort.{Sort}
 use Rattle.group77.specs.declared.feed.Sort.TheVariants as sort
 use Rattle.group77.specs.declared.group.Rule.{Rule}
 use Rattle.group77.specs.declared.group.Rule.TheVariants as rule
-use Rattle.group77.specs.declared.stop.Stop.{Stop}
-use Rattle.group77.specs.declared.stop.Stop.TheVariants as stops
+use Rattle.group77.specs.declared.build_error.BuildError.{BuildError}
+use Rattle.group77.specs.declared.build_error.BuildError.TheVariants as build_error
 
 -- the symbols that are left
-unfoldable pub left_of : Feed → List Symbol
-left_of feed = map symbol_of feed.symbols
+unfoldable pub symbols_left : Feed → List Symbol
+symbols_left feed = map grammar_symbol feed.symbols
 
 -- what a reader gives, and what is left then; want of memory says nothing
-abbrev pub Reads : Result Expr Stop → List Symbol → Option (plain.Expr × List Symbol) → Type 0
-Reads (Ok x) left read = read ≡ Some (expr_of x, left)
-Reads (Err stops.NotSpelled) left read = read ≡ None
-Reads (Err stops.Memory) left read = Unit {0}
+abbrev pub GivesAndLeaves : Result Expr BuildError → List Symbol → Option (plain.Expr × List Symbol) → Type 0
+GivesAndLeaves (Ok x) left read = read ≡ Some (expr_of x, left)
+GivesAndLeaves (Err build_error.NotSpelled) left read = read ≡ None
+GivesAndLeaves (Err build_error.Memory) left read = Unit {0}
 
 -- whether an operator is of the sort
 abbrev pub test_of : Sort → plain.BinaryOp → Bool

@@ -4,15 +4,15 @@ ghost use Rattle.text_base.specs.Trees as tree;
 ghost use Rattle.expr_tree.specs.Plain.{expr_of, binary_of};
 ghost use Rattle.tree77.specs.Expressions.{IsExpression};
 ghost use Rattle.group77.specs.Building as machine;
-ghost use Rattle.group77.specs.Symbol.{symbol_of, Gives, GivesSeen};
+ghost use Rattle.group77.specs.Symbol.{grammar_symbol, Gives, GivesSeen};
 ghost use Rattle.group77.specs.BuilderViews.{opening_of, level_of, state_of, is_in_list};
-ghost use Rattle.group77.specs.declared.stop.Stop.TheVariants.{NotSpelled};
+ghost use Rattle.group77.specs.declared.build_error.BuildError.TheVariants.{NotSpelled};
 
+use crate::build_error::BuildError;
 use crate::feed::{Sort, is_of};
 use crate::group::group;
 use crate::opening::{Opening, argument, bound, closed, is_specifier, opening_behind, parent_of};
 use crate::stack::Stack;
-use crate::stop::Stop;
 use crate::symbol::{Symbol, Symbols};
 use expr_tree::{BinaryOp, Expr};
 use std::alloc::Global;
@@ -38,8 +38,8 @@ fn opened(
     mut levels: Stack<Level>,
     before: Symbols,
     of: Opening,
-) -> Result<Builder, Stop>
-    ensures { GivesSeen state_of result (Some (machine.open_level (map level_of levels) (map symbol_of before) (opening_of of))) }
+) -> Result<Builder, BuildError>
+    ensures { GivesSeen state_of result (Some (machine.open_level (map level_of levels) (map grammar_symbol before) (opening_of of))) }
 {
     levels.push(Level { before, of })?;
     Ok(Builder {
@@ -64,7 +64,7 @@ impl Builder {
     /// Whether an operand stands last.
     #[tactic(auto, using(crate::proofs::BuilderSteps::last_ends))]
     fn is_after(&self) -> bool
-        ensures { result ≡ machine.is_after (map symbol_of self.now.symbols) }
+        ensures { result ≡ machine.is_after (map grammar_symbol self.now.symbols) }
     {
         match self.symbols.as_slice().last() {
             Some(last) => last.ends(),
@@ -73,8 +73,8 @@ impl Builder {
     }
 
     /// Puts a symbol last.
-    fn push(self, symbol: Symbol) -> Result<Builder, Stop>
-        ensures { GivesSeen state_of result (Some (machine.push (symbol_of symbol) (state_of self))) }
+    fn push(self, symbol: Symbol) -> Result<Builder, BuildError>
+        ensures { GivesSeen state_of result (Some (machine.push (grammar_symbol symbol) (state_of self))) }
     {
         let Builder {
             levels,
@@ -90,31 +90,31 @@ impl Builder {
     }
 
     /// Takes an operand, which stands behind none.
-    fn operand(self, operand: Expr) -> Result<Builder, Stop>
+    fn operand(self, operand: Expr) -> Result<Builder, BuildError>
         ensures { GivesSeen state_of result (machine.step_operand (expr_of operand) (state_of self)) }
     {
         if self.is_after() {
-            return Err(Stop::NotSpelled);
+            return Err(BuildError::NotSpelled);
         }
         self.push(Symbol::Operand(operand))
     }
 
     /// Takes an operator, which stands behind an operand or is a sign.
-    fn operator(self, op: BinaryOp) -> Result<Builder, Stop>
+    fn operator(self, op: BinaryOp) -> Result<Builder, BuildError>
         ensures { GivesSeen state_of result (machine.step_operator (binary_of op) (state_of self)) }
     {
         if self.is_after() || is_of(op, Sort::Sum) {
             return self.push(Symbol::Operator(op));
         }
-        Err(Stop::NotSpelled)
+        Err(BuildError::NotSpelled)
     }
 
     /// Takes `.NOT.`, which stands behind no operand.
-    fn not_sign(self) -> Result<Builder, Stop>
+    fn not_sign(self) -> Result<Builder, BuildError>
         ensures { GivesSeen state_of result (machine.step_not (state_of self)) }
     {
         if self.is_after() {
-            return Err(Stop::NotSpelled);
+            return Err(BuildError::NotSpelled);
         }
         self.push(Symbol::Not)
     }
@@ -131,19 +131,19 @@ impl Builder {
     }
 
     /// Takes an alternate return specifier, which stands alone in its argument.
-    fn alternate(self) -> Result<Builder, Stop>
-        ensures { GivesSeen state_of result (machine.step_alternate (map level_of self.levels) (map symbol_of self.symbols)) }
+    fn alternate(self) -> Result<Builder, BuildError>
+        ensures { GivesSeen state_of result (machine.step_alternate (map level_of self.levels) (map grammar_symbol self.symbols)) }
     {
         if self.is_in_list() && self.symbols.is_empty() {
             return self.push(Symbol::Alternate);
         }
-        Err(Stop::NotSpelled)
+        Err(BuildError::NotSpelled)
     }
 
     /// Opens a parenthesis. Behind a name or an array element it belongs to it; behind other operands none may stand.
     #[tactic(auto, using(crate::proofs::BuilderSteps::opens_group))]
-    fn open(self, alloc: Global) -> Result<Builder, Stop>
-        ensures { let symbols = map symbol_of self.symbols in GivesSeen state_of result (machine.opening_at self.is_element (map level_of self.levels) symbols (machine.split_last symbols)) }
+    fn open(self, alloc: Global) -> Result<Builder, BuildError>
+        ensures { let symbols = map grammar_symbol self.symbols in GivesSeen state_of result (machine.opening_at self.is_element (map level_of self.levels) symbols (machine.split_last symbols)) }
     {
         if !self.is_after() {
             return opened(alloc, self.levels, self.symbols, Opening::Group);
@@ -154,15 +154,15 @@ impl Builder {
             is_element,
         } = self;
         let Some(last) = symbols.pop() else {
-            return Err(Stop::NotSpelled);
+            return Err(BuildError::NotSpelled);
         };
         let of = opening_behind(alloc, last, is_element)?;
         opened(alloc, levels, symbols, of)
     }
 
     /// Takes a comma, which ends an argument or a subscript.
-    fn comma(self, alloc: Global) -> Result<Builder, Stop>
-        ensures { GivesSeen state_of result (machine.step_comma (map level_of self.levels) (map symbol_of self.symbols)) }
+    fn comma(self, alloc: Global) -> Result<Builder, BuildError>
+        ensures { GivesSeen state_of result (machine.step_comma (map level_of self.levels) (map grammar_symbol self.symbols)) }
     {
         let Builder {
             mut levels,
@@ -170,7 +170,7 @@ impl Builder {
             ..
         } = self;
         let Some(Level { before, of }) = levels.pop() else {
-            return Err(Stop::NotSpelled);
+            return Err(BuildError::NotSpelled);
         };
         let Opening::List {
             name,
@@ -178,7 +178,7 @@ impl Builder {
             is_element,
         } = of
         else {
-            return Err(Stop::NotSpelled);
+            return Err(BuildError::NotSpelled);
         };
         let is_element = is_element && !is_specifier(&symbols);
         let last = argument(alloc, symbols)?;
@@ -192,8 +192,8 @@ impl Builder {
     }
 
     /// Takes a colon, which ends the lower bound of a substring.
-    fn colon(self, alloc: Global) -> Result<Builder, Stop>
-        ensures { GivesSeen state_of result (machine.step_colon (map level_of self.levels) (map symbol_of self.symbols)) }
+    fn colon(self, alloc: Global) -> Result<Builder, BuildError>
+        ensures { GivesSeen state_of result (machine.step_colon (map level_of self.levels) (map grammar_symbol self.symbols)) }
     {
         let Builder {
             mut levels,
@@ -201,7 +201,7 @@ impl Builder {
             ..
         } = self;
         let Some(Level { before, of }) = levels.pop() else {
-            return Err(Stop::NotSpelled);
+            return Err(BuildError::NotSpelled);
         };
         let parent = parent_of(of)?;
         let from = bound(alloc, symbols)?;
@@ -209,8 +209,8 @@ impl Builder {
     }
 
     /// Closes the innermost parenthesis: what it belongs to and what stands in it are one operand.
-    fn close(self, alloc: Global) -> Result<Builder, Stop>
-        ensures { GivesSeen state_of result (machine.step_closing (map level_of self.levels) (map symbol_of self.symbols)) }
+    fn close(self, alloc: Global) -> Result<Builder, BuildError>
+        ensures { GivesSeen state_of result (machine.step_closing (map level_of self.levels) (map grammar_symbol self.symbols)) }
     {
         let Builder {
             mut levels,
@@ -218,7 +218,7 @@ impl Builder {
             ..
         } = self;
         let Some(Level { mut before, of }) = levels.pop() else {
-            return Err(Stop::NotSpelled);
+            return Err(BuildError::NotSpelled);
         };
         let is_element = of.is_element(&symbols);
         let operand = closed(alloc, of, symbols)?;
@@ -231,8 +231,8 @@ impl Builder {
     }
 
     /// Takes the next symbol.
-    fn step(self, alloc: Global, symbol: Symbol) -> Result<Builder, Stop>
-        ensures { GivesSeen state_of result (machine.step (symbol_of symbol) (state_of self)) }
+    fn step(self, alloc: Global, symbol: Symbol) -> Result<Builder, BuildError>
+        ensures { GivesSeen state_of result (machine.step (grammar_symbol symbol) (state_of self)) }
     {
         match symbol {
             Symbol::Operand(operand) => self.operand(operand),
@@ -247,7 +247,7 @@ impl Builder {
     }
 
     /// The tree, where no parenthesis is open at the end.
-    fn finish(self, alloc: Global) -> Result<Expr, Stop>
+    fn finish(self, alloc: Global) -> Result<Expr, BuildError>
         ensures { Gives result (machine.finish (state_of self)) }
     {
         let Builder {
@@ -256,7 +256,7 @@ impl Builder {
             ..
         } = self;
         match levels.pop() {
-            Some(_) => Err(Stop::NotSpelled),
+            Some(_) => Err(BuildError::NotSpelled),
             None => group(alloc, symbols),
         }
     }
@@ -264,8 +264,8 @@ impl Builder {
 
 /// What the machine builds from all symbols.
 #[tactic(auto, unfolding(crate::specs::Building::build))]
-fn build_all(alloc: Global, symbols: Symbols) -> Result<Expr, Stop>
-    ensures { Gives result (machine.build (map symbol_of symbols)) }
+fn build_all(alloc: Global, symbols: Symbols) -> Result<Expr, BuildError>
+    ensures { Gives result (machine.build (map grammar_symbol symbols)) }
 {
     let mut left = Stack::from_items(alloc, symbols)?;
     let mut builder = Builder::new(alloc);
@@ -275,11 +275,15 @@ fn build_all(alloc: Global, symbols: Symbols) -> Result<Expr, Stop>
     builder.finish(alloc)
 }
 
-/// The tree of the symbols of an expression (X3.9 section 6). `NotSpelled` comes where they are none, and `Memory` where
-/// memory is wanting.
-pub fn build(alloc: Global, symbols: Symbols) -> Result<Expr, Stop>
-    ensures found { IfOk result (λ x. IsExpression (map symbol_of symbols) (expr_of x)) }
-    ensures none { result ≡ Err NotSpelled → (x : tree.Expr) → IsExpression (map symbol_of symbols) x → ⊥ }
+/// Builds the tree of an expression from its symbols (X3.9 section 6).
+///
+/// In: the symbols, in order; their trees become parts of the tree.
+///
+/// Out: the one tree that the symbols are; or `NotSpelled`, exactly where they are no expression. `Memory`, where memory is
+/// wanted, may come in place of either.
+pub fn build(alloc: Global, symbols: Symbols) -> Result<Expr, BuildError>
+    ensures found { IfOk result (λ x. IsExpression (map grammar_symbol symbols) (expr_of x)) }
+    ensures none { result ≡ Err NotSpelled → (x : tree.Expr) → IsExpression (map grammar_symbol symbols) x → ⊥ }
 {
     build_all(alloc, symbols)
 }

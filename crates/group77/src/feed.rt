@@ -4,11 +4,11 @@ ghost use Rattle.std.specs.Option.{option_map};
 ghost use Rattle.expr_tree.specs.Plain.{binary_of};
 ghost use Rattle.group77.specs.Grouping as grouping;
 ghost use Rattle.group77.specs.Groups as groups;
-ghost use Rattle.group77.specs.Groups.{left_of, Reads};
-ghost use Rattle.group77.specs.Symbol.{symbol_of};
+ghost use Rattle.group77.specs.Groups.{symbols_left, GivesAndLeaves};
+ghost use Rattle.group77.specs.Symbol.{grammar_symbol};
 
+use crate::build_error::BuildError;
 use crate::stack::Stack;
-use crate::stop::Stop;
 use crate::symbol::{Symbol, Symbols};
 use expr_tree::{BinaryOp, Expr};
 use std::alloc::{AllocError, Global};
@@ -53,9 +53,9 @@ pub struct Feed {
 
 impl Feed {
     /// All symbols are left.
-    #[tactic(auto, unfolding(crate::specs::Groups::left_of))]
+    #[tactic(auto, unfolding(crate::specs::Groups::symbols_left))]
     pub fn new(alloc: Global, symbols: Symbols) -> Result<Feed, AllocError>
-        ensures { IfOk result (λ feed. left_of feed ≡ map symbol_of symbols) }
+        ensures { IfOk result (λ feed. symbols_left feed ≡ map grammar_symbol symbols) }
     {
         Ok(Feed {
             symbols: Stack::from_items(alloc, symbols)?,
@@ -63,37 +63,37 @@ impl Feed {
     }
 
     /// How many symbols are left.
-    #[tactic(auto, unfolding(crate::specs::Groups::left_of))]
+    #[tactic(auto, unfolding(crate::specs::Groups::symbols_left))]
     pub fn len(&self) -> usize
-        ensures { result ≡ length (left_of self.now) }
+        ensures { result ≡ length (symbols_left self.now) }
     {
         self.symbols.len()
     }
 
     /// Whether no symbol is left.
     pub fn is_empty(&self) -> bool
-        ensures { IsTrue result ↔ (left_of self.now ≡ []) }
+        ensures { IsTrue result ↔ (symbols_left self.now ≡ []) }
     {
         self.symbols.is_empty()
     }
 
     /// The symbol that stands next.
     fn peek(&self) -> Option<&Symbol>
-        ensures { option_map (λ s. symbol_of s.now) result ≡ slice_get (left_of self.now) 0 }
+        ensures { option_map (λ s. grammar_symbol s.now) result ≡ slice_get (symbols_left self.now) 0 }
     {
         self.symbols.top()
     }
 
     /// Takes the symbol that stands next.
     fn take(&mut self) -> Option<Symbol>
-        ensures { MatchOption result ((left_of self.old ≡ []) × (left_of self.new ≡ [])) (λ s. left_of self.old ≡ symbol_of s ∷ left_of self.new) }
+        ensures { MatchOption result ((symbols_left self.old ≡ []) × (symbols_left self.new ≡ [])) (λ s. symbols_left self.old ≡ grammar_symbol s ∷ symbols_left self.new) }
     {
         self.symbols.pop()
     }
 
     /// The operator that stands next, if one does.
     fn operator_here(&self) -> Option<BinaryOp>
-        ensures { option_map binary_of result ≡ groups.operator_here (left_of self.now) }
+        ensures { option_map binary_of result ≡ groups.operator_here (symbols_left self.now) }
     {
         match self.peek()? {
             Symbol::Operator(op) => Some(*op),
@@ -103,14 +103,14 @@ impl Feed {
 
     /// Whether `.NOT.` stands next.
     fn is_at_not(&self) -> bool
-        ensures { result ≡ groups.is_at_not (left_of self.now) }
+        ensures { result ≡ groups.is_at_not (symbols_left self.now) }
     {
         matches!(self.peek(), Some(Symbol::Not))
     }
 
     /// Takes the operator that stands next, if it is one of the sort.
     pub fn take_operator(&mut self, sort: Sort) -> Option<BinaryOp>
-        ensures { groups.OperatorTaken sort (left_of self.old) (option_map binary_of result) (left_of self.new) }
+        ensures { groups.OperatorTaken sort (symbols_left self.old) (option_map binary_of result) (symbols_left self.new) }
     {
         let op = self.operator_here()?;
         if !is_of(op, sort) {
@@ -122,7 +122,7 @@ impl Feed {
 
     /// Takes `.NOT.`, if it stands next.
     pub fn take_not(&mut self) -> bool
-        ensures { groups.NotTaken (left_of self.old) result (left_of self.new) }
+        ensures { groups.NotTaken (symbols_left self.old) result (symbols_left self.new) }
     {
         let found = self.is_at_not();
         if found {
@@ -132,12 +132,12 @@ impl Feed {
     }
 
     /// Takes the operand that stands next.
-    pub fn take_operand(&mut self) -> Result<Expr, Stop>
-        ensures { Reads result (left_of self.new) (grouping.read_operand (left_of self.old)) }
+    pub fn take_operand(&mut self) -> Result<Expr, BuildError>
+        ensures { GivesAndLeaves result (symbols_left self.new) (grouping.read_operand (symbols_left self.old)) }
     {
         match self.take() {
             Some(Symbol::Operand(operand)) => Ok(operand),
-            _ => Err(Stop::NotSpelled),
+            _ => Err(BuildError::NotSpelled),
         }
     }
 }

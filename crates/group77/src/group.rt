@@ -3,11 +3,11 @@ ghost use Rattle.std.specs.Prelude.{◌≡◌, map, length, IfOk};
 ghost use Rattle.text_base.specs.Trees as plain;
 ghost use Rattle.expr_tree.specs.Plain.{expr_of, unary_of, binary_of};
 ghost use Rattle.group77.specs.Grouping as grouping;
-ghost use Rattle.group77.specs.Groups.{left_of, reader_of, test_of, Reads};
-ghost use Rattle.group77.specs.Symbol.{symbol_of, Gives};
+ghost use Rattle.group77.specs.Groups.{symbols_left, reader_of, test_of, GivesAndLeaves};
+ghost use Rattle.group77.specs.Symbol.{grammar_symbol, Gives};
 
+use crate::build_error::BuildError;
 use crate::feed::{Feed, Sort};
-use crate::stop::Stop;
 use crate::symbol::{Symbol, Symbols};
 use expr_tree::{BinaryOp, Expr, UnaryOp};
 use sqlite_items::Boxed;
@@ -56,8 +56,8 @@ fn sign_of(op: BinaryOp) -> UnaryOp
 
 /// Reads an operand, or an operand and a power of it; powers group from the right (X3.9 section 6.1.2).
 #[tactic(auto, using(crate::proofs::FactorSteps::factor_steps))]
-fn factor(alloc: Global, feed: &mut Feed) -> Result<Expr, Stop>
-    ensures { Reads result (left_of feed.new) (grouping.read_factor (left_of feed.old)) }
+fn factor(alloc: Global, feed: &mut Feed) -> Result<Expr, BuildError>
+    ensures { GivesAndLeaves result (symbols_left feed.new) (grouping.read_factor (symbols_left feed.old)) }
 {
     let base = feed.take_operand()?;
     let Some(op) = feed.take_operator(Sort::Power) else {
@@ -69,8 +69,14 @@ fn factor(alloc: Global, feed: &mut Feed) -> Result<Expr, Stop>
 
 /// Reads operands with operators of one sort between them, which group from the left.
 #[cycle(rule)]
-fn chain(alloc: Global, sort: Sort, first: Rule, next: Rule, feed: &mut Feed) -> Result<Expr, Stop>
-    ensures { Reads result (left_of feed.new) (grouping.read_chain (test_of sort) (reader_of first) (reader_of next) (left_of feed.old)) }
+fn chain(
+    alloc: Global,
+    sort: Sort,
+    first: Rule,
+    next: Rule,
+    feed: &mut Feed,
+) -> Result<Expr, BuildError>
+    ensures { GivesAndLeaves result (symbols_left feed.new) (grouping.read_chain (test_of sort) (reader_of first) (reader_of next) (symbols_left feed.old)) }
 {
     let mut grouped = read(alloc, first, feed)?;
     for _ in 0..feed.len() {
@@ -86,8 +92,8 @@ fn chain(alloc: Global, sort: Sort, first: Rule, next: Rule, feed: &mut Feed) ->
 /// Reads a term, which may have a sign before it (X3.9 section 6.1.2).
 #[cycle(rule)]
 #[tactic(auto, unfolding(crate::specs::Grouping::read_signed))]
-fn signed(alloc: Global, feed: &mut Feed) -> Result<Expr, Stop>
-    ensures { Reads result (left_of feed.new) (grouping.read_signed (left_of feed.old)) }
+fn signed(alloc: Global, feed: &mut Feed) -> Result<Expr, BuildError>
+    ensures { GivesAndLeaves result (symbols_left feed.new) (grouping.read_signed (symbols_left feed.old)) }
 {
     let Some(op) = feed.take_operator(Sort::Sum) else {
         return read(alloc, Rule::Term, feed);
@@ -99,8 +105,8 @@ fn signed(alloc: Global, feed: &mut Feed) -> Result<Expr, Stop>
 /// Reads an operand, or two with a relation between them (X3.9 section 6.3).
 #[cycle(rule)]
 #[tactic(auto, unfolding(crate::specs::Grouping::read_relation))]
-fn relation(alloc: Global, feed: &mut Feed) -> Result<Expr, Stop>
-    ensures { Reads result (left_of feed.new) (grouping.read_relation (left_of feed.old)) }
+fn relation(alloc: Global, feed: &mut Feed) -> Result<Expr, BuildError>
+    ensures { GivesAndLeaves result (symbols_left feed.new) (grouping.read_relation (symbols_left feed.old)) }
 {
     let left = read(alloc, Rule::Concatenation, feed)?;
     let Some(op) = feed.take_operator(Sort::Relation) else {
@@ -113,8 +119,8 @@ fn relation(alloc: Global, feed: &mut Feed) -> Result<Expr, Stop>
 /// Reads a relation, which may have `.NOT.` before it (X3.9 section 6.4.2).
 #[cycle(rule)]
 #[tactic(auto, unfolding(crate::specs::Grouping::read_negation))]
-fn negation(alloc: Global, feed: &mut Feed) -> Result<Expr, Stop>
-    ensures { Reads result (left_of feed.new) (grouping.read_negation (left_of feed.old)) }
+fn negation(alloc: Global, feed: &mut Feed) -> Result<Expr, BuildError>
+    ensures { GivesAndLeaves result (symbols_left feed.new) (grouping.read_negation (symbols_left feed.old)) }
 {
     if !feed.take_not() {
         return read(alloc, Rule::Relation, feed);
@@ -126,8 +132,8 @@ fn negation(alloc: Global, feed: &mut Feed) -> Result<Expr, Stop>
 /// Reads the front of what is left by a rule.
 #[cycle(rule)]
 #[tactic(auto, unfolding(crate::specs::Grouping::read_term, crate::specs::Grouping::read_sum, crate::specs::Grouping::read_concatenation, crate::specs::Grouping::read_conjunction, crate::specs::Grouping::read_disjunction, crate::specs::Grouping::read_equivalence))]
-fn read(alloc: Global, rule: Rule, feed: &mut Feed) -> Result<Expr, Stop>
-    ensures { Reads result (left_of feed.new) (reader_of rule (left_of feed.old)) }
+fn read(alloc: Global, rule: Rule, feed: &mut Feed) -> Result<Expr, BuildError>
+    ensures { GivesAndLeaves result (symbols_left feed.new) (reader_of rule (symbols_left feed.old)) }
 {
     match rule {
         Rule::Factor => factor(alloc, feed),
@@ -165,20 +171,20 @@ fn read(alloc: Global, rule: Rule, feed: &mut Feed) -> Result<Expr, Stop>
 
 /// The tree of one symbol, which is an operand.
 #[tactic(auto, using(crate::proofs::GroupLaw::one_grouped))]
-fn alone(mut symbols: Symbols) -> Result<Expr, Stop>
+fn alone(mut symbols: Symbols) -> Result<Expr, BuildError>
     requires { length symbols ≡ 1 }
-    ensures { Gives result (grouping.group (map symbol_of symbols)) }
+    ensures { Gives result (grouping.group (map grammar_symbol symbols)) }
 {
     match symbols.pop() {
         Some(Symbol::Operand(operand)) => Ok(operand),
-        _ => Err(Stop::NotSpelled),
+        _ => Err(BuildError::NotSpelled),
     }
 }
 
 /// The tree of operands and operators, by precedence (X3.9 section 6.5).
 #[tactic(auto, unfolding(crate::specs::Grouping::group))]
-pub fn group(alloc: Global, symbols: Symbols) -> Result<Expr, Stop>
-    ensures { Gives result (grouping.group (map symbol_of symbols)) }
+pub fn group(alloc: Global, symbols: Symbols) -> Result<Expr, BuildError>
+    ensures { Gives result (grouping.group (map grammar_symbol symbols)) }
 {
     if symbols.len() == 1 {
         return alone(symbols);
@@ -188,6 +194,6 @@ pub fn group(alloc: Global, symbols: Symbols) -> Result<Expr, Stop>
     if feed.is_empty() {
         Ok(tree)
     } else {
-        Err(Stop::NotSpelled)
+        Err(BuildError::NotSpelled)
     }
 }

@@ -5,11 +5,11 @@ ghost use Rattle.std.specs.Prelude.{◌≡◌, map};
 ghost use Rattle.std.specs.Option.{option_map};
 ghost use Rattle.expr_tree.specs.Plain.{expr_of, bound_of};
 ghost use Rattle.group77.specs.Building as machine;
-ghost use Rattle.group77.specs.Symbol.{symbol_of, Gives, GivesSeen};
+ghost use Rattle.group77.specs.Symbol.{grammar_symbol, Gives, GivesSeen};
 ghost use Rattle.group77.specs.BuilderViews.{opening_of, is_listing};
 
+use crate::build_error::BuildError;
 use crate::group::group;
-use crate::stop::Stop;
 use crate::symbol::{Symbol, Symbols};
 use expr_tree::{Expr, Exprs};
 use sqlite_items::Boxed;
@@ -41,7 +41,7 @@ impl Opening {
 
     /// Whether it is an array element that a parenthesis behind these symbols ends.
     pub fn is_element(&self, symbols: &Symbols) -> bool
-        ensures { result ≡ machine.is_element (opening_of self.now) (map symbol_of symbols.now) }
+        ensures { result ≡ machine.is_element (opening_of self.now) (map grammar_symbol symbols.now) }
     {
         match self {
             Opening::List {
@@ -55,7 +55,11 @@ impl Opening {
 }
 
 /// What a parenthesis behind an operand belongs to: to an array element, or to a name.
-fn opening_behind_operand(alloc: Global, operand: Expr, is_element: bool) -> Result<Opening, Stop>
+fn opening_behind_operand(
+    alloc: Global,
+    operand: Expr,
+    is_element: bool,
+) -> Result<Opening, BuildError>
     ensures { GivesSeen opening_of result (machine.behind_operand is_element (expr_of operand)) }
 {
     if is_element {
@@ -67,29 +71,33 @@ fn opening_behind_operand(alloc: Global, operand: Expr, is_element: bool) -> Res
             arguments: Exprs::new(alloc),
             is_element: true,
         }),
-        Expr::Int(_) => Err(Stop::NotSpelled),
-        Expr::Bool(_) => Err(Stop::NotSpelled),
-        Expr::Text(_) => Err(Stop::NotSpelled),
-        Expr::Call(..) => Err(Stop::NotSpelled),
-        Expr::Substring(..) => Err(Stop::NotSpelled),
-        Expr::Unary(..) => Err(Stop::NotSpelled),
-        Expr::Binary(..) => Err(Stop::NotSpelled),
-        Expr::Paren(_) => Err(Stop::NotSpelled),
+        Expr::Int(_) => Err(BuildError::NotSpelled),
+        Expr::Bool(_) => Err(BuildError::NotSpelled),
+        Expr::Text(_) => Err(BuildError::NotSpelled),
+        Expr::Call(..) => Err(BuildError::NotSpelled),
+        Expr::Substring(..) => Err(BuildError::NotSpelled),
+        Expr::Unary(..) => Err(BuildError::NotSpelled),
+        Expr::Binary(..) => Err(BuildError::NotSpelled),
+        Expr::Paren(_) => Err(BuildError::NotSpelled),
     }
 }
 
 /// What a parenthesis behind a symbol belongs to, where this is an operand.
-pub fn opening_behind(alloc: Global, symbol: Symbol, is_element: bool) -> Result<Opening, Stop>
-    ensures { GivesSeen opening_of result (machine.behind_symbol is_element (symbol_of symbol)) }
+pub fn opening_behind(
+    alloc: Global,
+    symbol: Symbol,
+    is_element: bool,
+) -> Result<Opening, BuildError>
+    ensures { GivesSeen opening_of result (machine.behind_symbol is_element (grammar_symbol symbol)) }
 {
     match symbol {
         Symbol::Operand(operand) => opening_behind_operand(alloc, operand, is_element),
-        _other => Err(Stop::NotSpelled),
+        _other => Err(BuildError::NotSpelled),
     }
 }
 
 /// The variable or array element that a substring is part of, where a colon stands here.
-pub fn parent_of(of: Opening) -> Result<Expr, Stop>
+pub fn parent_of(of: Opening) -> Result<Expr, BuildError>
     ensures { GivesSeen expr_of result (machine.parent_in (opening_of of)) }
 {
     match of {
@@ -101,24 +109,24 @@ pub fn parent_of(of: Opening) -> Result<Expr, Stop>
             if arguments.is_empty() {
                 return Ok(Expr::Name(name));
             }
-            Err(Stop::NotSpelled)
+            Err(BuildError::NotSpelled)
         }
         Opening::Part(element) => Ok(element),
-        Opening::Group => Err(Stop::NotSpelled),
-        Opening::Bound(..) => Err(Stop::NotSpelled),
+        Opening::Group => Err(BuildError::NotSpelled),
+        Opening::Bound(..) => Err(BuildError::NotSpelled),
     }
 }
 
 /// Whether an alternate return specifier stands alone.
 pub fn is_specifier(symbols: &Symbols) -> bool
-    ensures { result ≡ machine.is_specifier (map symbol_of symbols.now) }
+    ensures { result ≡ machine.is_specifier (map grammar_symbol symbols.now) }
 {
     matches!(symbols.as_slice(), [Symbol::Alternate])
 }
 
 /// The tree of an argument or a subscript: of an expression, or 0 for an alternate return specifier.
-pub fn argument(alloc: Global, symbols: Symbols) -> Result<Expr, Stop>
-    ensures { Gives result (machine.read_argument (map symbol_of symbols)) }
+pub fn argument(alloc: Global, symbols: Symbols) -> Result<Expr, BuildError>
+    ensures { Gives result (machine.read_argument (map grammar_symbol symbols)) }
 {
     if is_specifier(&symbols) {
         return Ok(Expr::Int(0));
@@ -127,8 +135,8 @@ pub fn argument(alloc: Global, symbols: Symbols) -> Result<Expr, Stop>
 }
 
 /// A bound of a substring, `None` where none is written.
-pub fn bound(alloc: Global, symbols: Symbols) -> Result<Option<Boxed<Expr>>, Stop>
-    ensures { GivesSeen (λ x. bound_of (option_map expr_of x)) result (machine.read_bound (map symbol_of symbols)) }
+pub fn bound(alloc: Global, symbols: Symbols) -> Result<Option<Boxed<Expr>>, BuildError>
+    ensures { GivesSeen (λ x. bound_of (option_map expr_of x)) result (machine.read_bound (map grammar_symbol symbols)) }
 {
     if symbols.is_empty() {
         return Ok(None);
@@ -139,7 +147,7 @@ pub fn bound(alloc: Global, symbols: Symbols) -> Result<Option<Boxed<Expr>>, Sto
 
 /// Whether nothing stands in a list.
 fn is_bare(arguments: &Exprs, symbols: &Symbols) -> bool
-    ensures { result ≡ machine.is_bare (map expr_of arguments.now) (map symbol_of symbols.now) }
+    ensures { result ≡ machine.is_bare (map expr_of arguments.now) (map grammar_symbol symbols.now) }
 {
     matches!((arguments.as_slice(), symbols.as_slice()), ([], []))
 }
@@ -150,8 +158,8 @@ fn closed_list(
     name: Name,
     mut arguments: Exprs,
     symbols: Symbols,
-) -> Result<Expr, Stop>
-    ensures { Gives result (machine.close_list name (map expr_of arguments) (map symbol_of symbols)) }
+) -> Result<Expr, BuildError>
+    ensures { Gives result (machine.close_list name (map expr_of arguments) (map grammar_symbol symbols)) }
 {
     if is_bare(&arguments, &symbols) {
         return Ok(Expr::Call(name, Exprs::new(alloc)));
@@ -162,8 +170,8 @@ fn closed_list(
 }
 
 /// The tree that a parenthesis ends, where these symbols stand before it.
-pub fn closed(alloc: Global, of: Opening, symbols: Symbols) -> Result<Expr, Stop>
-    ensures { Gives result (machine.close_level (opening_of of) (map symbol_of symbols)) }
+pub fn closed(alloc: Global, of: Opening, symbols: Symbols) -> Result<Expr, BuildError>
+    ensures { Gives result (machine.close_level (opening_of of) (map grammar_symbol symbols)) }
 {
     match of {
         Opening::Group => {
@@ -175,7 +183,7 @@ pub fn closed(alloc: Global, of: Opening, symbols: Symbols) -> Result<Expr, Stop
             arguments,
             ..
         } => closed_list(alloc, name, arguments, symbols),
-        Opening::Part(_) => Err(Stop::NotSpelled),
+        Opening::Part(_) => Err(BuildError::NotSpelled),
         Opening::Bound(parent, from) => {
             let to = bound(alloc, symbols)?;
             let parent = Boxed::new(alloc, parent)?;

@@ -1,13 +1,13 @@
 // The symbols of the grammar of expressions.
 ghost use Rattle.std.specs.Prelude.{◌≡◌};
 ghost use Rattle.group77.specs.Building as machine;
-ghost use Rattle.group77.specs.Symbol.{symbol_of};
+ghost use Rattle.group77.specs.Symbol.{grammar_symbol};
 
 use expr_tree::{BinaryOp, Expr};
 use sqlite_items::Items;
 
-/// A symbol of the grammar of expressions: a constant or a name, an alternate return specifier (X3.9 section 15.8.3), an
-/// operator, which may be a sign, `.NOT.`, or a mark.
+/// A symbol of the grammar of expressions (X3.9 section 6): a constant or a name, as its tree; an alternate return specifier
+/// (X3.9 section 15.8.3); an operator, which may be a sign; `.NOT.`; or a mark.
 #[derive(Drop)]
 pub enum Symbol {
     Operand(Expr),
@@ -23,7 +23,7 @@ pub enum Symbol {
 impl Symbol {
     /// Whether an operand may not stand behind it.
     pub fn ends(&self) -> bool
-        ensures { result ≡ machine.ends (symbol_of self.now) }
+        ensures { result ≡ machine.ends (grammar_symbol self.now) }
     {
         matches!(self, Symbol::Operand(_) | Symbol::Alternate)
     }

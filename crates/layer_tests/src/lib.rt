@@ -1,7 +1,27 @@
-//! The tests of bytes, names, comments, shelf, sink and cards.
+//! The tests of the layers, from bytes to the whole program.
 #![tactic(auto)]
 
 #[cfg(test)]
 mod base;
 #[cfg(test)]
 mod cards;
+#[cfg(test)]
+mod expressions;
+#[cfg(test)]
+mod files;
+#[cfg(test)]
+mod help;
+#[cfg(test)]
+mod kinds;
+#[cfg(test)]
+mod printed;
+#[cfg(test)]
+mod statements;
+#[cfg(test)]
+mod table;
+#[cfg(test)]
+mod tables;
+#[cfg(test)]
+mod tokens;
+#[cfg(test)]
+mod top;

@@ -30,7 +30,7 @@ fn main(rt: HostRuntime) -> ExitCode {
     let Ok(words) = arguments(&rt) else {
         return ExitCode::from(Status::Memory.code());
     };
-    let mut shelf = DiskShelf::new(&rt);
+    let mut shelf = DiskShelf::new(rt.alloc(), &rt);
     let mut out = StdSink::new(&rt);
     let status = modern(rt.alloc(), &words, &mut shelf, &mut out);
     ExitCode::from(status.code())

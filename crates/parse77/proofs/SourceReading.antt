@@ -1,15 +1,12 @@
 -- The program that is read is the one that the source is.
-use Rattle.std.proofs.Common.{◌≡◌, ℕ, suc, ◌<◌, ◌≤◌, Bool, true, false, List, [], ◌∷◌, length, map, Option, Some, None, refl, sym, ap, ◌∙◌, subst, arith}
-use Rattle.std.specs.Prelude.{◌==◌, nat_lt, if◌then◌else◌}
-use Rattle.std.specs.List.{All}
+use Rattle.std.proofs.Common.{◌≡◌, ℕ, ◌<◌, Bool, true, false, List, [], ◌∷◌, length, map, Option, Some, None, refl, sym, ap, ◌∙◌, subst, arith}
+use Rattle.std.specs.Prelude.{◌==◌, if◌then◌else◌}
 use Rattle.std.specs.Option.{option_map, option_and_then}
-use Rattle.std.proofs.lemmas.Bool.{ltb-false}
 use Rattle.text_base.specs.Cards.{Card, cards}
 use Rattle.text_base.specs.Kept.{is_format}
-use Rattle.text_base.specs.Lines.{lines}
-use Rattle.text_base.specs.LineRefusals.{too_large, line_refusals, card_refusals}
+use Rattle.text_base.specs.LineRefusals.{card_refusals}
 use Rattle.text_base.specs.Pieces.{Piece, IsPieces}
-use Rattle.text_base.specs.declared.limits.TheConstants.{LARGEST_FILE}
+use Rattle.text_base.specs.declared.limits.TheConstants.{GREATEST_COUNT}
 use Rattle.text_base.specs.declared.refusal.Place.{Place}
 use Rattle.text_base.specs.declared.refusal.Refusal.{Refusal}
 use Rattle.text_base.proofs.Optional.{went, mapped}
@@ -19,35 +16,17 @@ use Rattle.tree77.specs.Tree as tree
 use Rattle.tree77.specs.Tree.{simple, Code, done, item, SourceUnit, SourceProgram}
 use Rattle.tree77.specs.Typing.{is_typed}
 use Rattle.scan77.specs.PieceReading.{pieces_of}
-use Rattle.parse77.specs.Reading.{read_statement, read_card, read_of, Ended, join_code, read_code, unit_with, read_unit, read_cards, typed_unit, unless_refused, read_source}
+use Rattle.parse77.specs.Reading.{read_statement, read_card, read_of, Ended, join_code, read_code, unit_with, read_unit, file_statements, typed_unit, unless_refused, read_source}
 use Rattle.parse77.proofs.StatementReading.{Laws, is_spelled, is_read}
 
--- a statement with fewer characters than this has one list of pieces
-abbrev IsShort : Card → Type 0
-IsShort card = length card.text < 4294967295
-
--- what is known of the statements of files
+-- what is known of the pieces of statements, which are short where they are FORMATs
 pub record CardLaws : Type 0 where
-  pub pieces_found : (label : ℕ) (text : List ℕ) → length text < 4294967295 → IsPieces (is_format label text) text (pieces_of label text)
-  pub pieces_only : (label : ℕ) (text : List ℕ) (pieces : List Piece) → length text < 4294967295 → IsPieces (is_format label text) text pieces → pieces ≡ pieces_of label text
-  pub short : (file : ℕ) (bytes : List ℕ) → length bytes ≤ LARGEST_FILE → All (λ card. length card.text < 4294967295) (cards file bytes)
+  pub pieces_found : (label : ℕ) (text : List ℕ) → (is_format label text ≡ true → length text < GREATEST_COUNT) → IsPieces (is_format label text) text (pieces_of label text)
+  pub pieces_only : (label : ℕ) (text : List ℕ) (pieces : List Piece) → (is_format label text ≡ true → length text < GREATEST_COUNT) → IsPieces (is_format label text) text pieces → pieces ≡ pieces_of label text
 
--- each of some statements is short
-abbrev AreShort : List Card → Type 0
-AreShort [] = Unit {0}
-AreShort (card ∷ rest) = IsShort card × AreShort rest
-
-are_short : (cs : List Card) → All (λ card. length card.text < 4294967295) cs → AreShort cs
-are_short [] all = tt
-are_short (card ∷ rest) all = (all 0 card (omega arith), are_short rest (λ k d within. all (suc k) d (omega (arith, within))))
-
--- a file of which nothing is refused isn't too large
-not_large : (file : ℕ) (bytes : List ℕ) → card_refusals file bytes ≡ [] → length bytes ≤ LARGEST_FILE
-not_large file bytes e = go (nat_lt LARGEST_FILE (length bytes)) refl e
-  where
-    go : (b : Bool) → nat_lt LARGEST_FILE (length bytes) ≡ b → (if b then too_large file (length bytes) ∷ [] else line_refusals file 1 None (lines bytes)) ≡ [] → length bytes ≤ LARGEST_FILE
-    go true is e = absurd cc
-    go false is e = ltb-false LARGEST_FILE (length bytes) is
+-- a statement without a label is no FORMAT
+no_format : (label : ℕ) (text : List ℕ) → label ≡ 0 → is_format label text ≡ true → length text < GREATEST_COUNT
+no_format label text none is = let e : false ≡ true = subst (λ n. is_format n text ≡ true) none is in absurd cc
 
 no_label : (n : ℕ) → (n == 0) ≡ true → n ≡ 0
 no_label n e = grind (arith, e)
@@ -59,96 +38,92 @@ module _ (l : Laws) (c : CardLaws) where
   -- ---- cards
 
   -- what is read on a card is spelled there
-  pub card_spelled : (card : Card) (s : Statement) → length card.text < 4294967295 → read_card card ≡ Some s → SpellsCard card s
-  card_spelled card s short e = go (card.label == 0) refl e
+  pub card_spelled : (card : Card) (s : Statement) → read_card card ≡ Some s → SpellsCard card s
+  card_spelled card s e = go (card.label == 0) refl e
     where
       go : (b : Bool) → (card.label == 0) ≡ b → (if b then read_statement (pieces_of card.label card.text) else None) ≡ Some s → SpellsCard card s
       go true is e = record {
         unlabelled = no_label card.label is;
         pieces = pieces_of card.label card.text;
-        cut = c.pieces_found card.label card.text short;
+        cut = c.pieces_found card.label card.text (no_format card.label card.text (no_label card.label is));
         spelled = is_spelled l (pieces_of card.label card.text) s e;
       }
       go false is e = absurd cc
 
   -- what is spelled on a card is read there
-  pub card_read : (card : Card) (s : Statement) → length card.text < 4294967295 → SpellsCard card s → read_card card ≡ Some s
-  card_read card s short spelled =
+  pub card_read : (card : Card) (s : Statement) → SpellsCard card s → read_card card ≡ Some s
+  card_read card s spelled =
       ap (λ b. if b then read_statement (pieces_of card.label card.text) else None) (is_no_label card.label spelled.unlabelled)
-      ∙ ap read_statement (sym (c.pieces_only card.label card.text spelled.pieces short spelled.cut))
+      ∙ ap read_statement (sym (c.pieces_only card.label card.text spelled.pieces (no_format card.label card.text spelled.unlabelled) spelled.cut))
       ∙ is_read l spelled.pieces s spelled.spelled
 
   -- ---- lists
 
-  join_spelled : (card : Card) (s : Statement) (rest : List Card) (more : Option Ended) (r : Ended) → IsShort card → ((q : Ended) → more ≡ Some q → SpellsCode rest q.0 q.1)
+  join_spelled : (card : Card) (s : Statement) (rest : List Card) (more : Option Ended) (r : Ended) → ((q : Ended) → more ≡ Some q → SpellsCode rest q.0 q.1)
       → read_card card ≡ Some s → join_code card.place s (map read_of rest) more ≡ Some r → SpellsCode (card ∷ rest) r.0 r.1
-  join_spelled card (program x) rest more r short follows was e = absurd cc
-  join_spelled card continue rest more r short follows was e =
+  join_spelled card (program x) rest more r follows was e = absurd cc
+  join_spelled card continue rest more r follows was e =
       let m = mapped more (λ (q : Ended). (item 0 card.place tree.continue q.0, q.1)) r e in
-      subst (λ (q : Ended). SpellsCode (card ∷ rest) q.0 q.1) m.is (card_spelled card continue short was, refl, refl, follows m.from m.was)
-  join_spelled card end [] more r short follows was e =
+      subst (λ (q : Ended). SpellsCode (card ∷ rest) q.0 q.1) m.is (card_spelled card continue was, refl, refl, follows m.from m.was)
+  join_spelled card end [] more r follows was e =
       let same : ◌≡◌ {A = Ended} (done, card.place) r = cc in
-      subst (λ (q : Ended). SpellsCode (card ∷ []) q.0 q.1) same (card_spelled card end short was, refl, refl)
-  join_spelled card end (next ∷ rest) more r short follows was e = absurd cc
-  join_spelled card (action a) rest more r short follows was e =
+      subst (λ (q : Ended). SpellsCode (card ∷ []) q.0 q.1) same (card_spelled card end was, refl, refl)
+  join_spelled card end (next ∷ rest) more r follows was e = absurd cc
+  join_spelled card (action a) rest more r follows was e =
       let m = mapped more (λ (q : Ended). (item 0 card.place (simple a) q.0, q.1)) r e in
-      subst (λ (q : Ended). SpellsCode (card ∷ rest) q.0 q.1) m.is (card_spelled card (action a) short was, refl, refl, follows m.from m.was)
+      subst (λ (q : Ended). SpellsCode (card ∷ rest) q.0 q.1) m.is (card_spelled card (action a) was, refl, refl, follows m.from m.was)
 
-  code_spelled : (cs : List Card) (r : Ended) → AreShort cs → read_code (map read_of cs) ≡ Some r → SpellsCode cs r.0 r.1
-  code_spelled [] r short e = absurd cc
-  code_spelled (card ∷ rest) r short e =
+  code_spelled : (cs : List Card) (r : Ended) → read_code (map read_of cs) ≡ Some r → SpellsCode cs r.0 r.1
+  code_spelled [] r e = absurd cc
+  code_spelled (card ∷ rest) r e =
       let w = went (read_card card) (λ s. join_code card.place s (map read_of rest) (read_code (map read_of rest))) r e in
-      join_spelled card w.from rest (read_code (map read_of rest)) r short.0 (λ q is. code_spelled rest q short.1 is) w.was w.is
+      join_spelled card w.from rest (read_code (map read_of rest)) r (code_spelled rest) w.was w.is
 
-  code_read : (cs : List Card) (code : Code) (last : Place) → AreShort cs → SpellsCode cs code last → read_code (map read_of cs) ≡ Some (code, last)
-  code_read [] code last short s = absurd s
-  code_read (card ∷ []) done last short s = ap (option_and_then (λ t. join_code card.place t [] None)) (card_read card end short.0 s.0) ∙ (λ i. Some (done, sym s.1 i))
-  code_read (card ∷ next ∷ rest) done last short s = absurd (nonempty s.2)
+  code_read : (cs : List Card) (code : Code) (last : Place) → SpellsCode cs code last → read_code (map read_of cs) ≡ Some (code, last)
+  code_read [] code last s = absurd s
+  code_read (card ∷ []) done last s = ap (option_and_then (λ t. join_code card.place t [] None)) (card_read card end s.0) ∙ (λ i. Some (done, sym s.1 i))
+  code_read (card ∷ next ∷ rest) done last s = absurd (nonempty s.2)
     where
       nonempty : next ∷ rest ≡ [] → ⊥
       nonempty e = cc
-  code_read (card ∷ rest) (item label here (simple a) more) last short s =
-      ap (option_and_then (λ t. join_code card.place t (map read_of rest) (read_code (map read_of rest)))) (card_read card (action a) short.0 s.0)
-      ∙ ap (option_map (λ (r : Ended). (item 0 card.place (simple a) r.0, r.1))) (code_read rest more last short.1 s.3)
+  code_read (card ∷ rest) (item label here (simple a) more) last s =
+      ap (option_and_then (λ t. join_code card.place t (map read_of rest) (read_code (map read_of rest)))) (card_read card (action a) s.0)
+      ∙ ap (option_map (λ (r : Ended). (item 0 card.place (simple a) r.0, r.1))) (code_read rest more last s.3)
       ∙ (λ i. Some (item (sym s.1 i) (sym s.2 i) (simple a) more, last))
-  code_read (card ∷ rest) (item label here tree.continue more) last short s =
-      ap (option_and_then (λ t. join_code card.place t (map read_of rest) (read_code (map read_of rest)))) (card_read card continue short.0 s.0)
-      ∙ ap (option_map (λ (r : Ended). (item 0 card.place tree.continue r.0, r.1))) (code_read rest more last short.1 s.3)
+  code_read (card ∷ rest) (item label here tree.continue more) last s =
+      ap (option_and_then (λ t. join_code card.place t (map read_of rest) (read_code (map read_of rest)))) (card_read card continue s.0)
+      ∙ ap (option_map (λ (r : Ended). (item 0 card.place tree.continue r.0, r.1))) (code_read rest more last s.3)
       ∙ (λ i. Some (item (sym s.1 i) (sym s.2 i) tree.continue more, last))
 
   -- ---- units
 
-  unit_with_spelled : (card : Card) (rest : List Card) (s : Statement) (ended : Option Ended) (u : SourceUnit) → IsShort card → ((r : Ended) → ended ≡ Some r → SpellsCode rest r.0 r.1)
+  unit_with_spelled : (card : Card) (rest : List Card) (s : Statement) (ended : Option Ended) (u : SourceUnit) → ((r : Ended) → ended ≡ Some r → SpellsCode rest r.0 r.1)
       → read_card card ≡ Some s → unit_with card.place s ended ≡ Some u → SpellsUnit (card ∷ rest) u
-  unit_with_spelled card rest (program x) ended u short follows was e =
+  unit_with_spelled card rest (program x) ended u follows was e =
       let m = mapped ended (λ (r : Ended). record { name = x; place = card.place; code = r.0; end = r.1 }) u e in
-      subst (SpellsUnit (card ∷ rest)) m.is (card_spelled card (program x) short was, refl, follows m.from m.was)
-  unit_with_spelled card rest (action a) ended u short follows was e = absurd cc
-  unit_with_spelled card rest continue ended u short follows was e = absurd cc
-  unit_with_spelled card rest end ended u short follows was e = absurd cc
+      subst (SpellsUnit (card ∷ rest)) m.is (card_spelled card (program x) was, refl, follows m.from m.was)
+  unit_with_spelled card rest (action a) ended u follows was e = absurd cc
+  unit_with_spelled card rest continue ended u follows was e = absurd cc
+  unit_with_spelled card rest end ended u follows was e = absurd cc
 
-  unit_spelled : (cs : List Card) (u : SourceUnit) → AreShort cs → read_unit (map read_of cs) ≡ Some u → SpellsUnit cs u
-  unit_spelled [] u short e = absurd cc
-  unit_spelled (card ∷ rest) u short e =
+  unit_spelled : (cs : List Card) (u : SourceUnit) → read_unit (map read_of cs) ≡ Some u → SpellsUnit cs u
+  unit_spelled [] u e = absurd cc
+  unit_spelled (card ∷ rest) u e =
       let w = went (read_card card) (λ s. unit_with card.place s (read_code (map read_of rest))) u e in
-      unit_with_spelled card rest w.from (read_code (map read_of rest)) u short.0 (λ r is. code_spelled rest r short.1 is) w.was w.is
+      unit_with_spelled card rest w.from (read_code (map read_of rest)) u (code_spelled rest) w.was w.is
 
-  unit_is_read : (cs : List Card) (u : SourceUnit) → AreShort cs → SpellsUnit cs u → read_unit (map read_of cs) ≡ Some u
-  unit_is_read [] u short s = absurd s
-  unit_is_read (card ∷ rest) u short s =
-      ap (option_and_then (λ t. unit_with card.place t (read_code (map read_of rest)))) (card_read card (program u.name) short.0 s.0)
-      ∙ ap (option_map (λ (r : Ended). record { name = u.name; place = card.place; code = r.0; end = r.1 })) (code_read rest u.code u.end short.1 s.2)
+  unit_is_read : (cs : List Card) (u : SourceUnit) → SpellsUnit cs u → read_unit (map read_of cs) ≡ Some u
+  unit_is_read [] u s = absurd s
+  unit_is_read (card ∷ rest) u s =
+      ap (option_and_then (λ t. unit_with card.place t (read_code (map read_of rest)))) (card_read card (program u.name) s.0)
+      ∙ ap (option_map (λ (r : Ended). record { name = u.name; place = card.place; code = r.0; end = r.1 })) (code_read rest u.code u.end s.2)
       ∙ ap (λ (p : Place). Some (record { name = u.name; place = p; code = u.code; end = u.end })) (sym s.1)
 
   -- ---- programs
 
-  -- the statements of a file of which nothing is refused are short
-  file_is_short : (file : ℕ) (bytes : List ℕ) → card_refusals file bytes ≡ [] → AreShort (cards file bytes)
-  file_is_short file bytes accepted = are_short (cards file bytes) (c.short file bytes (not_large file bytes accepted))
-
   -- the program that the cards of a file spell
   abbrev program_read : ℕ → List ℕ → Option SourceProgram
-  program_read file bytes = option_map (λ (unit : SourceUnit). record { units = unit ∷ [] }) (option_and_then typed_unit (read_unit (read_cards file bytes)))
+  program_read file bytes = option_map (λ (unit : SourceUnit). record { units = unit ∷ [] }) (option_and_then typed_unit (read_unit (file_statements file bytes)))
 
   -- what is read is the program of the source
   pub source_of : (file : ℕ) (bytes : List ℕ) (p : SourceProgram) → read_source file bytes ≡ Some p → IsSource file bytes p
@@ -160,13 +135,13 @@ module _ (l : Laws) (c : CardLaws) where
 
       go : (rs : List Refusal) → card_refusals file bytes ≡ rs → unless_refused rs (program_read file bytes) ≡ Some p → IsSource file bytes p
       go [] is e =
-          let m = mapped (option_and_then typed_unit (read_unit (read_cards file bytes))) (λ (unit : SourceUnit). record { units = unit ∷ [] }) p e in
-          let w = went (read_unit (read_cards file bytes)) typed_unit m.from m.was in
+          let m = mapped (option_and_then typed_unit (read_unit (file_statements file bytes))) (λ (unit : SourceUnit). record { units = unit ∷ [] }) p e in
+          let w = went (read_unit (file_statements file bytes)) typed_unit m.from m.was in
           let t = typed w.from (is_typed w.from) refl m.from w.is in
           record {
             unit = m.from;
             accepted = is;
-            spelled = subst (SpellsUnit (cards file bytes)) t.1 (unit_spelled (cards file bytes) w.from (file_is_short file bytes is) w.was);
+            spelled = subst (SpellsUnit (cards file bytes)) t.1 (unit_spelled (cards file bytes) w.from w.was);
             typed = t.0;
             whole = sym m.is;
           }
@@ -176,6 +151,6 @@ module _ (l : Laws) (c : CardLaws) where
   pub source_read : (file : ℕ) (bytes : List ℕ) (p : SourceProgram) → IsSource file bytes p → read_source file bytes ≡ Some p
   source_read file bytes p s =
       ap (λ rs. unless_refused rs (program_read file bytes)) s.accepted
-      ∙ ap (λ o. option_map (λ (unit : SourceUnit). record { units = unit ∷ [] }) (option_and_then typed_unit o)) (unit_is_read (cards file bytes) s.unit (file_is_short file bytes s.accepted) s.spelled)
+      ∙ ap (λ o. option_map (λ (unit : SourceUnit). record { units = unit ∷ [] }) (option_and_then typed_unit o)) (unit_is_read (cards file bytes) s.unit s.spelled)
       ∙ ap (λ b. option_map (λ (unit : SourceUnit). record { units = unit ∷ [] }) (if b then Some s.unit else None)) s.typed
       ∙ ap Some (sym s.whole)

@@ -133,10 +133,10 @@ read_unit [] = None
 read_unit (read ∷ rest) = option_and_then (λ s. unit_with read.place s (read_code rest)) read.spelled
 
 -- the statements of a file as they are read
-abbrev pub read_cards : ℕ → List ℕ → List ReadCard
-read_cards file bytes = map read_of (cards file bytes)
+abbrev pub file_statements : ℕ → List ℕ → List ReadCard
+file_statements file bytes = map read_of (cards file bytes)
 
--- the unit, where its variables are integers
+-- the unit, where its names are those of integer variables
 abbrev pub typed_unit : SourceUnit → Option SourceUnit
 typed_unit unit = if is_typed unit then Some unit else None
 
@@ -148,4 +148,4 @@ unless_refused (first ∷ rest) read = None
 -- the program that the bytes of a file are the source of
 abbrev pub read_source : ℕ → List ℕ → Option SourceProgram
 read_source file bytes =
-    unless_refused (card_refusals file bytes) (option_map (λ (unit : SourceUnit). record { units = unit ∷ [] }) (option_and_then typed_unit (read_unit (read_cards file bytes))))
+    unless_refused (card_refusals file bytes) (option_map (λ (unit : SourceUnit). record { units = unit ∷ [] }) (option_and_then typed_unit (read_unit (file_statements file bytes))))

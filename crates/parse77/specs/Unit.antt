@@ -4,25 +4,25 @@ use Rattle.std.specs.Option.{option_map}
 use Rattle.tree77.specs.Plain.{stmt_of, code_of}
 use Rattle.tree77.specs.Spelling.{Statement, program, action, continue, end}
 use Rattle.tree77.specs.Tree.{item}
-use Rattle.tree77.specs.declared.tree.EndIf.{EndIf}
+use Rattle.text_base.specs.declared.refusal.Place.{Place}
 use Rattle.tree77.specs.declared.tree.Item77.{Item77}
 use Rattle.parse77.specs.Reading.{ReadCard, Ended, ended_at}
 use Rattle.parse77.specs.declared.unit.Step.{Step}
 use Rattle.parse77.specs.declared.unit.Step.TheVariants.{Item, Last, Other}
 
--- a list with its END, as its plain parts
-abbrev pub ended_of : List Item77 × EndIf → Ended
-ended_of r = (code_of r.0, r.1.place)
+-- a list with the place of its END, as its plain parts
+abbrev pub ended_of : List Item77 × Place → Ended
+ended_of r = (code_of r.0, r.1)
 
 -- what a statement adds to the list of those behind it
 abbrev pub adds : Step → List ReadCard → Option Ended → Option Ended
 adds (Item i) rest more = option_map (λ (r : Ended). (item i.label i.place (stmt_of i.body) r.0, r.1)) more
-adds (Last last) rest more = ended_at last.place rest
+adds (Last last) rest more = ended_at last rest
 adds Other rest more = None
 
 -- the name in a PROGRAM statement
-abbrev pub program_name : Statement → Option (List ℕ)
-program_name (program x) = Some x
-program_name (action a) = None
-program_name continue = None
-program_name end = None
+abbrev pub header_name : Statement → Option (List ℕ)
+header_name (program x) = Some x
+header_name (action a) = None
+header_name continue = None
+header_name end = None

@@ -1,10 +1,9 @@
-//! Statements of FORTRAN 77, and the programs that they are.
+//! Statements of FORTRAN 77 (`read_statements`), and the program that they are (`main_program`).
 #![tactic(auto)]
 
 mod assignment;
 mod keyword;
 mod laws;
-mod queue;
 mod reader;
 mod showing;
 mod statement;

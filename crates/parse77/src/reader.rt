@@ -76,15 +76,16 @@ fn read(alloc: Global, card: &Card) -> Result<ReadStatement, AllocError>
 ///
 /// In: what the file was read into.
 ///
-/// Out: a statement for each of the file, in order, with its label, its place, and what it spells, `None` where it has a
-/// label or spells no statement. It fails for want of memory alone.
+/// Out: one for each statement of the file, in order, with its label, its place, and what it spells, `None` where it has a
+/// label or spells no statement. An error comes only where memory is wanted.
 pub fn read_statements(alloc: Global, deck: &Deck) -> Result<Statements, AllocError>
     ensures labels { IfOk result (λ made. map (λ r. r.label) made ≡ map (λ card. card.label) deck.now.statements) }
     ensures read { IfOk result (λ made. map card_read made ≡ map read_of (map card_of deck.now.statements)) }
 {
-    let mut made = Items::new(alloc);
-    for card in deck.statements() {
+    let cards = deck.statements();
+    let mut made = Vec::with_capacity(alloc, cards.len())?;
+    for card in cards {
         made.push(read(alloc, card)?)?;
     }
-    Ok(made)
+    Ok(Items::from_vec(made))
 }

@@ -9,8 +9,12 @@ use std::alloc::{AllocError, Global};
 use text_base::Bytes;
 use text_base::limits::MOST_SHOWN;
 
-/// The first characters of a statement as they are read (X3.9 section 3.1.6), as many as a refusal shows: outside kept text
-/// blanks are left out, and lower-case letters are upper case. It fails for want of memory alone.
+/// What a refusal shows of a statement as its name.
+///
+/// In: the statement, of which its label and its characters count.
+///
+/// Out: its first 12 characters, or all where they are fewer, as they are read (X3.9 section 3.1.6): outside kept text without
+/// blanks, and with lower-case letters as upper case. An error comes only where memory is wanted.
 pub fn shown(alloc: Global, card: &Card) -> Result<Bytes, AllocError>
     ensures { IfOk result (λ made. made ≡ take MOST_SHOWN (read_characters card.now.text (kept card.now.label card.now.text))) }
 {

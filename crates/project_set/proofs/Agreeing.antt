@@ -7,8 +7,8 @@ use Rattle.text_base.specs.Values.{Value, integer, Held, undefined, holds_intege
 use Rattle.text_base.specs.Evaluation.{Storage}
 use Rattle.tree77.specs.Layout.{Entity, entity_of, entity_named, numeric_place}
 use Rattle.tree77.specs.Meaning.{Store, read_at, write_at, tagged, start77}
-use Rattle.tree90.specs.Tree.{integer_object}
-use Rattle.tree90.specs.Meaning.{Cells, integers, Object, Objects, is_object, cells_of, with_cells, integer_at, scalar, untagged, object_of}
+use Rattle.tree90.specs.Tree.{Declared, integer_object}
+use Rattle.tree90.specs.Meaning.{Cells, integers, Object, Objects, is_object, cells_of, with_cells, integer_at, scalar, untagged, AreDeclaredAs}
 use Rattle.project_set.proofs.Names.{place_of, bytes_same}
 use Rattle.project_set.proofs.Placing.{in_first, layout_at, numeric_place_is, numeric_places, entity_named_is}
 
@@ -177,11 +177,16 @@ module _ (home : List ℕ) (names : List (List ℕ)) where
           subst (λ k. Beside home names (slice_set w.numbers k (held v)) (with_cells w' home x (scalar v))) (sym (place_within w w' x i a at))
           (defined home x names w.numbers w' i (held v) (scalar v) a at (has_held v))
 
-starts : (home : List ℕ) (names : List (List ℕ)) → Beside home names (replicate (length names) undefined) (map (object_of home) (map integer_object names))
-starts home [] = tt
-starts home (x ∷ xs) = (refl, refl, record { value = pos 0; is = refl; shows = tt }, starts home xs)
+-- the declarations of a unit that are of these names
+abbrev pub declarations : List ℕ → List (List ℕ) → List (List ℕ × Declared)
+declarations home names = map (λ d. (home, d)) (map integer_object names)
 
--- at the start nothing is defined
-pub agrees_start : (home : List ℕ) (names : List (List ℕ)) → Agrees home names (start77 (layout_at home names)) (map (object_of home) (map integer_object names))
-agrees_start home names =
-    subst (λ k. Beside home names (replicate k undefined) (map (object_of home) (map integer_object names))) (sym (numeric_places home names)) (starts home names)
+starts : (home : List ℕ) (names : List (List ℕ)) (os : Objects) → AreDeclaredAs (declarations home names) os → Beside home names (replicate (length names) undefined) os
+starts home [] [] are = tt
+starts home [] (o ∷ os) are = absurd are
+starts home (x ∷ xs) [] are = absurd are
+starts home (x ∷ xs) (o ∷ os) ((v, is), rest) = (ap (λ (p : Object). p.home) is, ap (λ (p : Object). p.name) is, record { value = v; is = ap (λ (p : Object). p.cells) is; shows = tt }, starts home xs os rest)
+
+-- at the start nothing is defined, whatever the objects hold
+pub agrees_start : (home : List ℕ) (names : List (List ℕ)) (os : Objects) → AreDeclaredAs (declarations home names) os → Agrees home names (start77 (layout_at home names)) os
+agrees_start home names os are = subst (λ k. Beside home names (replicate k undefined) os) (sym (numeric_places home names)) (starts home names os are)

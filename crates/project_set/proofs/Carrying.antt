@@ -9,15 +9,14 @@ use Rattle.tree77.specs.Source.{IsSource}
 use Rattle.tree77.specs.Layout.{Layout}
 use Rattle.tree77.specs.Meaning.{Store, start77, run77, run_main}
 use Rattle.tree77.specs.Meaning as flat
-use Rattle.tree90.specs.Tree.{integer_object}
-use Rattle.tree90.specs.Meaning.{Objects, object_of, start90, run90}
+use Rattle.tree90.specs.Meaning.{Objects, declared_in, AreDeclaredAs, IsStart, run90}
 use Rattle.tree90.specs.Meaning as nested
 use Rattle.project_set.specs.MapText.{MapLine, map_lines, map_line_of}
 use Rattle.project_set.specs.Match.{IsMap, Matches, DoesTheSame}
 use Rattle.project_set.specs.Rewrite.{comments_from, written, written_unit}
 use Rattle.project_set.proofs.Names.{distinct_first_seen}
 use Rattle.project_set.proofs.Placing.{layout_at, one_unit, variables_of_one, layout_of_one}
-use Rattle.project_set.proofs.Agreeing.{Agrees, agrees_start}
+use Rattle.project_set.proofs.Agreeing.{declarations, agrees_start}
 use Rattle.project_set.proofs.Following.{Alike, follows_unit}
 use Rattle.project_set.proofs.Mapping.{map_lines_at, is_map_at, carried_at}
 
@@ -41,25 +40,26 @@ module _ (cs : List Comment) (u : SourceUnit) where
   matches (ended w c) (fault here' kind') a = absurd a
   matches (fault here kind) f a = tt
 
-  start_is : start90 (written cs (one_unit u)) ≡ map (object_of u.name) (map integer_object (variables u))
-  start_is = append-nil (map (object_of u.name) (map integer_object (variables u)))
+  declared_is : declared_in (written cs (one_unit u)) ≡ declarations u.name (variables u)
+  declared_is = append-nil (declarations u.name (variables u))
 
   -- the written unit follows the source's
-  unit_follows : (n : ℕ) → (m : ℕ) × (n ≤ m) × Matches layout lines (run_main layout (Some u) n) (nested.run_main (start90 (written cs (one_unit u))) (Some (written_unit cs 0 u)) m)
-  unit_follows n =
-      let agree = subst (Agrees u.name (variables u) (start77 layout)) (sym start_is) (agrees_start u.name (variables u)) in
-      let f = (follows_unit u.name (variables u) flat.no_function nested.no_function (comments_from cs 2) u.code 1 n (start77 layout) (start90 (written cs (one_unit u))) agree).by in
+  unit_follows : (start : Objects) → IsStart (written cs (one_unit u)) start → (n : ℕ) → (m : ℕ) × (n ≤ m) × Matches layout lines (run_main layout (Some u) n) (nested.run_main start (Some (written_unit cs 0 u)) m)
+  unit_follows start begins n =
+      let agree = agrees_start u.name (variables u) start (subst (λ ds. AreDeclaredAs ds start) declared_is begins) in
+      let f = (follows_unit u.name (variables u) flat.no_function nested.no_function (comments_from cs 2) u.code 1 n (start77 layout) start agree).by in
       (f.0, f.1, matches _ _ f.2)
 
   one_does_the_same : DoesTheSame (one_unit u) (written cs (one_unit u)) (map_lines (one_unit u))
   one_does_the_same = record {
-    is_map = subst (λ (l : Layout). IsMap l (map_lines (one_unit u))) (sym (layout_of_one u)) (subst (IsMap layout) (sym lines_are) (is_map_at u.name (variables u) (distinct_first_seen (code_names u.code))));
-    follows = λ n.
-        let f = unit_follows n in (
+    is_map = subst (λ (l : Layout). IsMap l (written cs (one_unit u)) (map_lines (one_unit u))) (sym (layout_of_one u))
+        (subst (IsMap layout (written cs (one_unit u))) (sym lines_are) (is_map_at u.name (variables u) (distinct_first_seen (code_names u.code)) (written cs (one_unit u)) declared_is));
+    follows = λ start begins n.
+        let f = unit_follows start begins n in (
           f.0,
           f.1,
-          subst (λ (l : Layout). Matches l (map_lines (one_unit u)) (run_main l (Some u) n) (run90 (written cs (one_unit u)) f.0)) (sym (layout_of_one u))
-              (subst (λ (ls : List MapLine). Matches layout ls (run_main layout (Some u) n) (run90 (written cs (one_unit u)) f.0)) (sym lines_are) f.2),
+          subst (λ (l : Layout). Matches l (map_lines (one_unit u)) (run_main l (Some u) n) (run90 start (written cs (one_unit u)) f.0)) (sym (layout_of_one u))
+              (subst (λ (ls : List MapLine). Matches layout ls (run_main layout (Some u) n) (run90 start (written cs (one_unit u)) f.0)) (sym lines_are) f.2),
         );
   }
 

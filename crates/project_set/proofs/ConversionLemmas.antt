@@ -9,7 +9,7 @@ use Rattle.tree77.specs.Plain.{unit_of}
 use Rattle.tree77.specs.Source.{IsSource}
 use Rattle.tree77.specs.Tree.{SourceUnit, SourceProgram}
 use Rattle.tree77.specs.declared.tree.Unit77.{Unit77}
-use Rattle.parse77.specs.Reading.{read_of, read_cards, read_unit, typed_unit, unless_refused, read_source}
+use Rattle.parse77.specs.Reading.{read_of, file_statements, read_unit, typed_unit, unless_refused, read_source}
 use Rattle.project_set.specs.Comments.{groups_at, ArePlaced}
 use Rattle.project_set.specs.Conversion.{IsConvertible}
 use Rattle.project_set.specs.Refusals.{statement_refusals, unit_refusals}
@@ -24,11 +24,11 @@ abbrev pub SourceFound : Type 0
 SourceFound = (file : ℕ) (bytes : List ℕ) (p : SourceProgram) → read_source file bytes ≡ Some p → IsSource file bytes p
 
 -- a program whose lines and statements are accepted is converted
-pub converted : SourceFound → (bytes : List ℕ) (u : SourceUnit) → card_refusals 0 bytes ≡ [] → statement_refusals (cards 0 bytes) ≡ [] → read_unit (read_cards 0 bytes) ≡ Some u → IsConvertible bytes (one_unit u)
+pub converted : SourceFound → (bytes : List ℕ) (u : SourceUnit) → card_refusals 0 bytes ≡ [] → statement_refusals (cards 0 bytes) ≡ [] → read_unit (file_statements 0 bytes) ≡ Some u → IsConvertible bytes (one_unit u)
 converted found bytes u lines statements unit =
     let typed = unit_is_typed (cards 0 bytes) u statements unit in
     let read : read_source 0 bytes ≡ Some (one_unit u) =
-    ap (λ rs. unless_refused rs (option_map one_unit (option_and_then typed_unit (read_unit (read_cards 0 bytes))))) lines
+    ap (λ rs. unless_refused rs (option_map one_unit (option_and_then typed_unit (read_unit (file_statements 0 bytes))))) lines
     ∙ ap (λ o. option_map one_unit (option_and_then typed_unit o)) unit
     ∙ ap (λ b. option_map one_unit (if b then Some u else None)) typed in
     let none : Accepted bytes = record { lines = lines; statements = statements; unit = ap (unit_refusals 0) unit } in
@@ -43,11 +43,11 @@ pub record IsUnitOf (bytes : List ℕ) (u : Unit77) (placed : Comments) : Type 0
   pub counted : length placed.before ≡ length u.items + 1
   pub at : ArePlaced (comments bytes) (length placed.before) placed
 
-pub unit_of_file : (bytes : List ℕ) (u : Unit77) (placed : Comments) → read_unit (read_cards 0 bytes) ≡ Some (unit_of u)
+pub unit_of_file : (bytes : List ℕ) (u : Unit77) (placed : Comments) → read_unit (file_statements 0 bytes) ≡ Some (unit_of u)
     → (2 ≤ length (cards 0 bytes) → ArePlaced (comments bytes) (length (cards 0 bytes) - 1) placed) → IsUnitOf bytes u placed
 unit_of_file bytes u placed unit at =
     let count : length (cards 0 bytes) ≡ length u.items + 2 =
-    sym (unit_size (read_cards 0 bytes) (unit_of u) unit ∙ length-map (cards 0 bytes) read_of) ∙ ap (λ n. n + 2) (items_count u.items) in
+    sym (unit_size (file_statements 0 bytes) (unit_of u) unit ∙ length-map (cards 0 bytes) read_of) ∙ ap (λ n. n + 2) (items_count u.items) in
     let here = at (omega (arith, count)) in
     let size : length placed.before ≡ length (cards 0 bytes) - 1 = ap length here.before ∙ length_groups (comments_from (comments bytes) 2) 1 (length (cards 0 bytes) - 1) in
     record {

@@ -11,6 +11,7 @@ use Rattle.project_set.specs.MapText.{map_lines}
 use Rattle.project_set.specs.Rewrite.{written}
 use Rattle.project_set.proofs.Carrying.{does_the_same}
 use Rattle.project_set.proofs.PositionLemmas.{comments_kept}
+use Rattle.project_set.proofs.SkeletonLemmas.{skeletons_kept}
 
 -- what the laws on texts say
 abbrev pub OneRead : Type 0
@@ -30,5 +31,6 @@ conversions_do_the_same proper one read bytes p converted =
       lines = map_lines p;
       is_map = refl;
       does_the_same = does_the_same bytes p converted.is_source;
+      skeletons = skeletons_kept bytes p converted.is_source;
       comments = comments_kept bytes p converted.is_source;
     }

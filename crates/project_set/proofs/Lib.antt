@@ -7,6 +7,7 @@ pub mod Carrying
 pub mod CommentLemmas
 pub mod RemarkLemmas
 pub mod PositionLemmas
+pub mod SkeletonLemmas
 pub mod Seen
 pub mod RefusalLemmas
 pub mod ShortPieces

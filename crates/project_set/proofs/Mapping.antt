@@ -1,5 +1,5 @@
 -- The map of a program of one unit: a line for each variable, and no other.
-use Rattle.std.proofs.Common.{◌≡◌, ℕ, zero, suc, ◌+◌, ◌<◌, ℤ, Bool, true, false, not, ◌&&◌, List, [], ◌∷◌, ◌++◌, length, map, codes, Contains, Option, Some, None, refl, sym, ap, ◌∙◌, subst, arith, nat_lt}
+use Rattle.std.proofs.Common.{◌≡◌, ℕ, zero, suc, ◌+◌, ◌-◌, ◌<◌, ℤ, Bool, true, false, not, ◌&&◌, List, [], ◌∷◌, ◌++◌, length, map, codes, Contains, Option, Some, None, refl, sym, ap, ◌∙◌, subst, arith, nat_lt}
 use Rattle.std.specs.Prelude.{slice_get, slice_index_or, if◌then◌else◌}
 use Rattle.std.specs.List.{enumerate_from}
 use Rattle.std.specs.Option.{option_map, option_and_then}
@@ -8,12 +8,13 @@ use Rattle.std.proofs.lemmas.Option.{slice_get-map, slice_get-get_or, slice_get_
 use Rattle.text_base.specs.Values.{Held, undefined, holds_integer, holds_logical}
 use Rattle.tree77.specs.Layout.{Kind, integers, logicals, Sequence, Entity, Layout, sequence_of, entity_of, numeric_place, text_place}
 use Rattle.tree77.specs.Meaning.{Store}
-use Rattle.tree90.specs.Meaning.{Objects, integer_at, object_integer}
+use Rattle.tree90.specs.Tree.{integer_object, FreeProgram}
+use Rattle.tree90.specs.Meaning.{Objects, integer_at, object_integer, declared_in}
 use Rattle.project_set.specs.MapText.{MapLine, home_text, sequence_text, map_line_of}
-use Rattle.project_set.specs.Match.{IsSeen, Covers, object_place, OneLine, IsNeeded, IsMap, held_in, held_at, byte_in, IsCarried}
+use Rattle.project_set.specs.Match.{IsSeen, Covers, object_place, OneLine, IsObjectPlace, IsNeeded, IsMap, held_in, held_at, byte_in, IsCarried}
 use Rattle.project_set.proofs.Names.{Distinct, one_place, place_at}
 use Rattle.project_set.proofs.Placing.{in_first, layout_at, numeric_place_is}
-use Rattle.project_set.proofs.Agreeing.{Agrees, Shows, found}
+use Rattle.project_set.proofs.Agreeing.{declarations, Agrees, Shows, found}
 
 -- what stands in a list stands at some place
 at_some_place : {X : Type 0} (xs : List X) (x : X) → Contains xs x → (i : ℕ) × (slice_get xs i ≡ Some x)
@@ -165,13 +166,23 @@ module _ (home : List ℕ) (names : List (List ℕ)) where
               one_place names other s there.variable distinct (c.0 ∙ there.at) there.at;
         }
 
-    no_other_at : (line : MapLine) → Contains map_lines_at line → IsNeeded layout line
-    no_other_at line here =
+    -- a variable's first place is one of the object that is declared for it
+    object_of : (program : FreeProgram) → declared_in program ≡ declarations home names → (i : ℕ) (x : List ℕ) → slice_get names i ≡ Some x → IsObjectPlace program home x integers 1
+    object_of program is i x at = record {
+      declared = integer_object x;
+      in_program = subst (λ ds. Contains ds (home, integer_object x)) (sym is)
+          (in_the_list (declarations home names) i (home, integer_object x) (mapped_at (λ d. (home, d)) (map integer_object names) i (integer_object x) (mapped_at integer_object names i x at)));
+      named = refl;
+      has = refl;
+    }
+
+    no_other_at : (program : FreeProgram) → declared_in program ≡ declarations home names → (line : MapLine) → Contains map_lines_at line → IsNeeded layout program line
+    no_other_at program is line here =
         let place = at_some_place map_lines_at line here in
         let l = line_at place.0 line place.1 in
-        subst (IsNeeded layout) l.2 (record {
+        subst (IsNeeded layout program) l.2 (record {
           some = omega arith;
-          from_one = omega arith;
+          objects = λ o from to. let first : 1 ≡ 1 + (o - 0) = omega (arith, from, to) in subst (IsObjectPlace program home l.0 integers) first (object_of program is place.0 l.0 l.1);
           sequence = place.0;
           named = named_at place.0 l.0 l.1;
           seen = λ o from to. let first : 0 ≡ o = omega arith in subst (λ z. IsSeen layout place.0 z integers) first (seen_own place.0 l.0 l.1);
@@ -189,8 +200,8 @@ module _ (home : List ℕ) (names : List (List ℕ)) where
         let same : c.1.variable ≡ c'.1.variable = ap (λ (z : MapLine). z.object) c.1.is ∙ objects ∙ sym (ap (λ (z : MapLine). z.object) c'.1.is) in
         (one_place names s s' c'.1.variable distinct (c.1.at ∙ ap Some same) c'.1.at, c.1.offset ∙ sym c'.1.offset, c.1.kind ∙ sym c'.1.kind)
 
-    pub is_map_at : IsMap layout map_lines_at
-    is_map_at = record { one_line = one_line_at; no_other = no_other_at; apart = apart_at }
+    pub is_map_at : (program : FreeProgram) → declared_in program ≡ declarations home names → IsMap layout program map_lines_at
+    is_map_at program is = record { one_line = one_line_at; no_other = no_other_at program is; apart = apart_at }
 
     -- ---- what agrees is carried
 

@@ -123,10 +123,10 @@ module _ (unit : ℕ) (f : ℕ → Position) (cs : List Comment) (ascends : is_a
       let b : e + n ≡ e + 1 + entries_in rest i = omega (arith, is) in
       ap f a ∙ at ∙ ap (before_entry unit) b
 
-  same_entries : (rest : source.Code) (k e i : ℕ) → f (k + suc i) ≡ before_entry unit (e + entries_in rest i) → f (k + 1 + i) ≡ before_entry unit (e + entries_in rest i)
-  same_entries rest k e i at =
+  same_entries : (rest : source.Code) (k e i n : ℕ) → n ≡ entries_in rest i → f (k + suc i) ≡ before_entry unit (e + n) → f (k + 1 + i) ≡ before_entry unit (e + entries_in rest i)
+  same_entries rest k e i n is at =
       let a : k + 1 + i ≡ k + suc i = omega arith in
-      ap f a ∙ at
+      ap f a ∙ at ∙ ap (λ j. before_entry unit (e + j)) is
 
   -- The comments of the list from the statement k on, and those after its END, are those that stood before, and those
   -- from the statement k on.
@@ -143,13 +143,13 @@ module _ (unit : ℕ) (f : ℕ → Position) (cs : List Comment) (ascends : is_a
       append_assoc (placed_at (before_entry unit e) (left ++ remarks_at cs k)) (code_positions unit (e + 1) L.0 L.1) (placed f (comments_from cs (k + (count_of rest + 1 + 1))))
       ∙ ap (λ j. placed_at (before_entry unit e) (left ++ remarks_at cs k) ++ (code_positions unit (e + 1) L.0 L.1 ++ placed f (comments_from cs j))) n
       ∙ ap (λ xs. placed_at (before_entry unit e) (left ++ remarks_at cs k) ++ xs)
-      (list_positions rest (k + 1) (e + 1) [] (λ i le. later_entries rest k e i (entries_in rest i + 1) refl (at (suc i) (omega (arith, le)))))
+      (list_positions rest (k + 1) (e + 1) [] (λ i le. later_entries rest k e i (1 + entries_in rest i) (omega arith) (at (suc i) (omega (arith, le)))))
       ∙ joined k e left (first_entry k e 0 refl (at 0 (omega arith)))
   list_positions (source.item label place source.continue rest) k e left at =
       let n : k + (count_of rest + 1 + 1) ≡ k + 1 + (count_of rest + 1) = omega arith in
       let L = written_list cs (k + 1) (left ++ remarks_at cs k) rest in
       ap (λ j. code_positions unit e L.0 L.1 ++ placed f (comments_from cs j)) n
-      ∙ list_positions rest (k + 1) e (left ++ remarks_at cs k) (λ i le. same_entries rest k e i (at (suc i) (omega (arith, le))))
+      ∙ list_positions rest (k + 1) e (left ++ remarks_at cs k) (λ i le. same_entries rest k e i (0 + entries_in rest i) (omega arith) (at (suc i) (omega (arith, le))))
       ∙ joined k e left (first_entry k e 0 refl (at 0 (omega arith)))
 
 -- ---- a unit

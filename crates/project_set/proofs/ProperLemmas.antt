@@ -1,14 +1,13 @@
 -- What is written for a source that is converted is proper.
-use Rattle.std.proofs.Common.{◌≡◌, ℕ, ◌+◌, ◌<◌, ◌≤◌, length, true, not, List, [], ◌∷◌, ◌++◌, map, refl, sym, ap, ◌∙◌, subst}
-use Rattle.std.specs.List.{All, list_all}
+use Rattle.std.proofs.Common.{◌≡◌, ℕ, ◌+◌, true, not, List, [], ◌∷◌, ◌++◌, map, refl, sym, ap, ◌∙◌, subst}
+use Rattle.std.specs.List.{list_all}
 use Rattle.std.specs.Str.{bytes_eq}
 use Rattle.std.proofs.lemmas.List.{append-nil}
 use Rattle.std.proofs.lemmas.List.Folds.{list_all-map}
 use Rattle.std.proofs.lemmas.Bool.{and_from, and_parts}
 use Rattle.text_base.specs.Lines.{cut}
-use Rattle.text_base.specs.Cards.{Card, Comment, cards, comments}
+use Rattle.text_base.specs.Cards.{Comment, cards, comments}
 use Rattle.text_base.specs.Chars.{is_name}
-use Rattle.text_base.specs.declared.limits.TheConstants.{LARGEST_FILE}
 use Rattle.text_base.specs.Names.{action_names}
 use Rattle.tree77.specs.Tree.{simple, continue, Code, done, item, SourceUnit, SourceProgram}
 use Rattle.tree77.specs.Typing as source
@@ -21,7 +20,7 @@ use Rattle.tree90.specs.Proper.{declared_name, is_among, are_distinct, IsWritabl
 use Rattle.project_set.specs.Rewrite.{remark_of, comments_from, remarks_at, written_list, written_unit, sizes_of, written}
 use Rattle.project_set.specs.Laws.{WrittenIsProper}
 use Rattle.project_set.proofs.Names.{distinct_first_seen}
-use Rattle.project_set.proofs.RefusalLemmas.{accepted, lines_accepted}
+use Rattle.project_set.proofs.RefusalLemmas.{accepted}
 use Rattle.project_set.proofs.Seen.{all_implied, all_first, apart_from_all, are_distinct_names, all_are_seen}
 use Rattle.project_set.proofs.ShortPieces.{is_short, short_nothing, short_append}
 use Rattle.project_set.proofs.ShortRemarks.{are_short_comments, are_writable, remarks_are_short, remarks_of_comments, remarks_at_are_short, comments_from_are_short, comments_are_short}
@@ -106,14 +105,10 @@ program_is_proper cs u short s typed = record {
   declared = names_are_declared cs 0 u;
 }
 
--- what the law on the cards of a file says
-abbrev pub CardsSmall : Type 0
-CardsSmall = (file : ℕ) (bytes : List ℕ) → length bytes ≤ LARGEST_FILE → All (λ (card : Card). length card.text < 4294967295) (cards file bytes)
-
 -- what is written for a source that is converted is proper
-pub written_is_proper : CardOnly → CardsSmall → WrittenIsProper
-written_is_proper only small bytes q c =
+pub written_is_proper : CardOnly → WrittenIsProper
+written_is_proper only bytes q c =
     let s = c.is_source in
-    let unit = unit_is_spelled only (cards 0 bytes) s.unit (small 0 bytes (lines_accepted bytes s.accepted).0) (accepted bytes c.accepted).statements s.spelled in
+    let unit = unit_is_spelled only (cards 0 bytes) s.unit (accepted bytes c.accepted).statements s.spelled in
     subst (λ (r : SourceProgram). IsProper (written (comments bytes) r)) (sym s.whole)
     (program_is_proper (comments bytes) s.unit (comments_are_short bytes s.accepted) unit s.typed)

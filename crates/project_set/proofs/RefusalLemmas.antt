@@ -16,8 +16,9 @@ use Rattle.tree77.specs.Tree.{SourceUnit}
 use Rattle.tree77.specs.Spelling.{Statement, program, action, continue, end}
 use Rattle.text_base.specs.Names.{action_names}
 use Rattle.tree77.specs.Typing.{code_names, is_variable, is_typed}
-use Rattle.parse77.specs.Reading.{ReadCard, read_card, read_of, read_cards, Ended, join_code, read_code, unit_with, read_unit}
-use Rattle.project_set.specs.Refusals.{header_name, program_name, is_free_name, is_built_action, is_short, is_built_statement, is_built_as, is_built_card, not_built_at, statement_refusals, unit_refusals, first_of, refusals}
+use Rattle.parse77.specs.Reading.{ReadCard, read_card, read_of, file_statements, Ended, join_code, read_code, unit_with, read_unit}
+use Rattle.parse77.specs.Unit.{header_name}
+use Rattle.project_set.specs.Refusals.{program_name, is_free_name, is_built_action, is_short, is_built_statement, is_built_as, is_built_card, not_built_at, statement_refusals, unit_refusals, first_of, refusals}
 
 -- ---- phases
 
@@ -55,12 +56,12 @@ lines_accepted bytes e = go (nat_lt 16777216 (length bytes)) refl e
 pub record Accepted (bytes : List ℕ) : Type 0 where
   pub lines : card_refusals 0 bytes ≡ []
   pub statements : statement_refusals (cards 0 bytes) ≡ []
-  pub unit : unit_refusals 0 (read_unit (read_cards 0 bytes)) ≡ []
+  pub unit : unit_refusals 0 (read_unit (file_statements 0 bytes)) ≡ []
 
 pub accepted : (bytes : List ℕ) → refusals bytes ≡ [] → Accepted bytes
 accepted bytes e =
-    let first = first_nothing (files_refusals 0 0 (bytes ∷ [])) (first_of (statement_refusals (cards 0 bytes)) (unit_refusals 0 (read_unit (read_cards 0 bytes)))) e in
-    let second = first_nothing (statement_refusals (cards 0 bytes)) (unit_refusals 0 (read_unit (read_cards 0 bytes))) first.1 in
+    let first = first_nothing (files_refusals 0 0 (bytes ∷ [])) (first_of (statement_refusals (cards 0 bytes)) (unit_refusals 0 (read_unit (file_statements 0 bytes)))) e in
+    let second = first_nothing (statement_refusals (cards 0 bytes)) (unit_refusals 0 (read_unit (file_statements 0 bytes))) first.1 in
     record { lines = sym (one_file bytes) ∙ first.0; statements = second.0; unit = second.1 }
 
 pub nothing_refused : (bytes : List ℕ) → Accepted bytes → refusals bytes ≡ []

@@ -12,7 +12,7 @@ use Rattle.tree77.specs.declared.tree.Item77.{Item77}
 use Rattle.tree77.specs.declared.tree.Unit77.{Unit77}
 use Rattle.tree90.specs.Tree.{simple, Declared, integer_object, FreeUnit, FreeProgram}
 use Rattle.tree90.specs.Plain as free
-use Rattle.tree90.specs.Plain.{Listed, with_item}
+use Rattle.tree90.specs.Plain.{CodeAndTail, with_item}
 use Rattle.tree90.specs.declared.tree.Item90.{Item90}
 use Rattle.tree90.specs.declared.tree.Stmt90.{Stmt90}
 use Rattle.tree90.specs.declared.tree.Unit90.{Unit90}
@@ -24,18 +24,18 @@ use Rattle.project_set.proofs.SizeLemmas.{items_count}
 -- ---- one item
 
 -- the statements of an item, and then a list with more comments behind it
-body_tail : (remarks : List Remark) (ss : List Stmt90) (rest : List Remark → Listed) (tail : List Remark)
+body_tail : (remarks : List Remark) (ss : List Stmt90) (rest : List Remark → CodeAndTail) (tail : List Remark)
     → with_tail (free.body_of remarks ss rest) tail ≡ free.body_of remarks ss (λ left. with_tail (rest left) tail)
 body_tail remarks [] rest tail = refl
 body_tail remarks (s ∷ ss) rest tail = ap (λ l. with_item remarks (free.stmt_of s) l) (body_tail [] ss rest tail)
 
 -- what is written for one statement with these comments before it, and for those after it
-abbrev written_first : t.Stmt → List Remark → (List Remark → Listed) → Listed
+abbrev written_first : t.Stmt → List Remark → (List Remark → CodeAndTail) → CodeAndTail
 written_first (t.simple a) remarks rest = with_item remarks (simple a) (rest [])
 written_first t.continue remarks rest = rest remarks
 
 -- before equal lists
-written_same : (s : t.Stmt) (remarks : List Remark) (rest other : List Remark → Listed) → ((left : List Remark) → rest left ≡ other left) → written_first s remarks rest ≡ written_first s remarks other
+written_same : (s : t.Stmt) (remarks : List Remark) (rest other : List Remark → CodeAndTail) → ((left : List Remark) → rest left ≡ other left) → written_first s remarks rest ≡ written_first s remarks other
 written_same (t.simple a) remarks rest other same = ap (λ l. with_item remarks (simple a) l) (same [])
 written_same t.continue remarks rest other same = same remarks
 
@@ -46,7 +46,7 @@ written_list-first cs k left label here (t.simple a) rest = refl
 written_list-first cs k left label here t.continue rest = refl
 
 -- the statements of an item are what is written for its source
-body_of-first : (ss : List Stmt90) (s : t.Stmt) (remarks : List Remark) (rest : List Remark → Listed)
+body_of-first : (ss : List Stmt90) (s : t.Stmt) (remarks : List Remark) (rest : List Remark → CodeAndTail)
     → map free.stmt_of ss ≡ statements_of s → free.body_of remarks ss rest ≡ written_first s remarks rest
 body_of-first [] (t.simple a) remarks rest same = cc
 body_of-first (x ∷ []) (t.simple a) remarks rest same = let is : free.stmt_of x ≡ simple a = cc in ap (λ y. with_item remarks y (rest [])) is
@@ -132,7 +132,7 @@ made_more cs k all old new x made grown y tail parted whole pushed comments body
 -- ---- a program of one unit
 
 -- a written unit from its parts
-abbrev free_with : List Remark → List ℕ → List Remark → List Declared → Listed → FreeUnit
+abbrev free_with : List Remark → List ℕ → List Remark → List Declared → CodeAndTail → FreeUnit
 free_with head name inner declared listed = record { head = head; name = name; inner = inner; declared = declared; code = listed.0; tail = listed.1 }
 
 -- a program of one unit from its parts

@@ -1,7 +1,7 @@
 -- The lines that are written for a source are short.
-use Rattle.std.proofs.Common.{◌≡◌, ℕ, suc, ◌+◌, ◌<◌, ◌≤◌, true, List, [], ◌∷◌, ◌++◌, length, map, codes, Option, Some, refl, ◌∙◌, subst, arith, length-append}
+use Rattle.std.proofs.Common.{◌≡◌, ℕ, ◌+◌, ◌≤◌, true, List, [], ◌∷◌, ◌++◌, length, map, codes, Option, Some, refl, ◌∙◌, subst, arith, length-append}
 use Rattle.std.specs.Prelude.{replicate, flat_map}
-use Rattle.std.specs.List.{All, list_all}
+use Rattle.std.specs.List.{list_all}
 use Rattle.std.proofs.lemmas.Bool.{leb-true, and_from, and_parts}
 use Rattle.std.proofs.lemmas.List.Folds.{list_all-append}
 use Rattle.text_base.specs.Cards.{Card, Comment}
@@ -17,7 +17,7 @@ use Rattle.parse77.specs.Reading.{read_card, read_of}
 use Rattle.tree90.specs.Tree as free
 use Rattle.text_base.specs.Remarks.{Remark}
 use Rattle.tree90.specs.Tree.{integer_object}
-use Rattle.tree90.specs.Plain.{Listed, with_item}
+use Rattle.tree90.specs.Plain.{CodeAndTail, with_item}
 use Rattle.tree90.specs.Printed.{action_text, stmt_text, declared_text, code_text, unit_text}
 use Rattle.tree90.specs.Proper.{IsWritableCode}
 use Rattle.project_set.specs.Refusals.{program_name, is_short, is_built_as, is_built_card, statement_refusals}
@@ -29,7 +29,7 @@ use Rattle.project_set.proofs.ShortRemarks.{are_short_remarks, are_short_comment
 use Rattle.project_set.proofs.SpellingLemmas.{PlainAction, action_is_plain, header_is_named}
 
 -- what is written for a list can be written, in short lines
-pub record ShortListed (r : Listed) : Type 0 where
+pub record ShortListed (r : CodeAndTail) : Type 0 where
   pub printed_short : IsShortLines (code_text 1 r.0)
   pub writable : IsWritableCode r.0
   pub tail : are_short_remarks r.1 ≡ true
@@ -48,7 +48,7 @@ line_fits : (a : Action) → is_short a ≡ true → 2 + length (action_text a) 
 line_fits a e = omega (arith, leb-true (length (stmt_text 1 (free.simple a))) 133 e, length-append (32 ∷ 32 ∷ action_text a) (10 ∷ []))
 
 -- a statement before a list, with the comments before it
-action_and_more : (remarks : List Remark) (a : Action) (more : Listed) → are_short_remarks remarks ≡ true → is_short a ≡ true → PlainAction a → ShortListed more → ShortListed (with_item remarks (free.simple a) more)
+action_and_more : (remarks : List Remark) (a : Action) (more : CodeAndTail) → are_short_remarks remarks ≡ true → is_short a ≡ true → PlainAction a → ShortListed more → ShortListed (with_item remarks (free.simple a) more)
 action_and_more remarks a more short fits one rest = record {
   printed_short = short_append (short_append (remarks_are_short remarks short) (short_indented 2 (action_text a) one.plain (line_fits a fits))) rest.printed_short;
   writable = (are_writable remarks short, one.writable, rest.writable);
@@ -57,47 +57,37 @@ action_and_more remarks a more short fits one rest = record {
 
 -- what the law on statements says: each statement that a card spells is the one that is read
 abbrev pub CardOnly : Type 0
-CardOnly = (card : Card) (s : Statement) → length card.text < 4294967295 → SpellsCard card s → read_card card ≡ Some s
-
--- the cards have fewer characters than the law asks for
-abbrev AreSmall : List Card → Type 0
-AreSmall cards = All (λ (card : Card). length card.text < 4294967295) cards
-
-small_first : (card : Card) (rest : List Card) → AreSmall (card ∷ rest) → length card.text < 4294967295
-small_first card rest small = small 0 card (omega arith)
-
-small_rest : (card : Card) (rest : List Card) → AreSmall (card ∷ rest) → AreSmall rest
-small_rest card rest small = λ k d lt. small (suc k) d (omega (arith, lt))
+CardOnly = (card : Card) (s : Statement) → SpellsCard card s → read_card card ≡ Some s
 
 module _ (only : CardOnly) (unit : Option (List ℕ)) where
   -- the parts of what can be converted of a statement that a card spells
-  built_parts : (card : Card) (a : Action) → length card.text < 4294967295 → is_built_card unit card ≡ true → SpellsCard card (action a) → IsBuiltAction unit a
-  built_parts card a small built spelled = built_action unit a (subst (λ o. is_built_as unit o ≡ true) (only card (action a) small spelled) built)
+  built_parts : (card : Card) (a : Action) → is_built_card unit card ≡ true → SpellsCard card (action a) → IsBuiltAction unit a
+  built_parts card a built spelled = built_action unit a (subst (λ o. is_built_as unit o ≡ true) (only card (action a) spelled) built)
 
   -- what is written for the statements that cards spell is short where they can be converted
-  code_is_short : (cards : List Card) (code : Code) (last : Place) → AreSmall cards → list_all (is_built_card unit) cards ≡ true → SpellsCode cards code last → IsShortCode code
-  code_is_short [] code last small built s = absurd s
-  code_is_short (card ∷ rest) done last small built s = λ cs k left short e. record { printed_short = short_nothing; writable = tt; tail = left_and_here cs k left short e }
-  code_is_short (card ∷ rest) (item label here (simple a) more) last small built s = λ cs k left short e.
+  code_is_short : (cards : List Card) (code : Code) (last : Place) → list_all (is_built_card unit) cards ≡ true → SpellsCode cards code last → IsShortCode code
+  code_is_short [] code last built s = absurd s
+  code_is_short (card ∷ rest) done last built s = λ cs k left short e. record { printed_short = short_nothing; writable = tt; tail = left_and_here cs k left short e }
+  code_is_short (card ∷ rest) (item label here (simple a) more) last built s = λ cs k left short e.
       let b = and_parts (is_built_card unit card) (list_all (is_built_card unit) rest) built in
-      let parts = built_parts card a (small_first card rest small) b.0 s.0 in
+      let parts = built_parts card a b.0 s.0 in
       action_and_more (left ++ remarks_at cs k) a (written_list cs (k + 1) [] more) (left_and_here cs k left short e)
-      parts.short (action_is_plain _ a s.0.spelled parts.built) (code_is_short rest more last (small_rest card rest small) b.1 s.3 cs (k + 1) [] short refl)
-  code_is_short (card ∷ rest) (item label here continue more) last small built s = λ cs k left short e.
+      parts.short (action_is_plain _ a s.0.spelled parts.built) (code_is_short rest more last b.1 s.3 cs (k + 1) [] short refl)
+  code_is_short (card ∷ rest) (item label here continue more) last built s = λ cs k left short e.
       let b = and_parts (is_built_card unit card) (list_all (is_built_card unit) rest) built in
-      code_is_short rest more last (small_rest card rest small) b.1 s.3 cs (k + 1) (left ++ remarks_at cs k) short (left_and_here cs k left short e)
+      code_is_short rest more last b.1 s.3 cs (k + 1) (left ++ remarks_at cs k) short (left_and_here cs k left short e)
 
   -- the statements that cards spell refer to names alone
-  code_is_named : (cards : List Card) (code : Code) (last : Place) → AreSmall cards → list_all (is_built_card unit) cards ≡ true → SpellsCode cards code last → list_all is_name (code_names code) ≡ true
-  code_is_named [] code last small built s = absurd s
-  code_is_named (card ∷ rest) done last small built s = refl
-  code_is_named (card ∷ rest) (item label here (simple a) more) last small built s =
+  code_is_named : (cards : List Card) (code : Code) (last : Place) → list_all (is_built_card unit) cards ≡ true → SpellsCode cards code last → list_all is_name (code_names code) ≡ true
+  code_is_named [] code last built s = absurd s
+  code_is_named (card ∷ rest) done last built s = refl
+  code_is_named (card ∷ rest) (item label here (simple a) more) last built s =
       let b = and_parts (is_built_card unit card) (list_all (is_built_card unit) rest) built in
-      let parts = built_parts card a (small_first card rest small) b.0 s.0 in
+      let parts = built_parts card a b.0 s.0 in
       list_all-append is_name (action_names a) (code_names more)
-      ∙ and_from _ _ (action_is_plain _ a s.0.spelled parts.built).named (code_is_named rest more last (small_rest card rest small) b.1 s.3)
-  code_is_named (card ∷ rest) (item label here continue more) last small built s =
-      code_is_named rest more last (small_rest card rest small) (and_parts (is_built_card unit card) (list_all (is_built_card unit) rest) built).1 s.3
+      ∙ and_from _ _ (action_is_plain _ a s.0.spelled parts.built).named (code_is_named rest more last b.1 s.3)
+  code_is_named (card ∷ rest) (item label here continue more) last built s =
+      code_is_named rest more last (and_parts (is_built_card unit card) (list_all (is_built_card unit) rest) built).1 s.3
 
 -- ---- declarations
 
@@ -137,17 +127,17 @@ unit_lines cs first u short s =
     (word_and_name 0 (codes "END PROGRAM ") u.name refl (omega arith) s.named)
 
 -- the unit that cards spell is such a unit where they can be converted
-cards_are_unit : CardOnly → (unit : Option (List ℕ)) (cards : List Card) (u : SourceUnit) → AreSmall cards → list_all (is_built_card unit) cards ≡ true → SpellsUnit cards u → ShortUnit u
-cards_are_unit only unit [] u small built s = absurd s
-cards_are_unit only unit (card ∷ rest) u small built s =
+cards_are_unit : CardOnly → (unit : Option (List ℕ)) (cards : List Card) (u : SourceUnit) → list_all (is_built_card unit) cards ≡ true → SpellsUnit cards u → ShortUnit u
+cards_are_unit only unit [] u built s = absurd s
+cards_are_unit only unit (card ∷ rest) u built s =
     let b = and_parts (is_built_card unit card) (list_all (is_built_card unit) rest) built in
     record {
       named = header_is_named _ u.name s.0.spelled;
-      names = code_is_named only unit rest u.code u.end (small_rest card rest small) b.1 s.2;
-      listed = code_is_short only unit rest u.code u.end (small_rest card rest small) b.1 s.2;
+      names = code_is_named only unit rest u.code u.end b.1 s.2;
+      listed = code_is_short only unit rest u.code u.end b.1 s.2;
     }
 
 -- so is the unit that cards spell of which none is refused
-pub unit_is_spelled : CardOnly → (cards : List Card) (u : SourceUnit) → AreSmall cards → statement_refusals cards ≡ [] → SpellsUnit cards u → ShortUnit u
-unit_is_spelled only cards u small none s =
-    cards_are_unit only (program_name (map read_of cards)) cards u small (all_built (program_name (map read_of cards)) cards none) s
+pub unit_is_spelled : CardOnly → (cards : List Card) (u : SourceUnit) → statement_refusals cards ≡ [] → SpellsUnit cards u → ShortUnit u
+unit_is_spelled only cards u none s =
+    cards_are_unit only (program_name (map read_of cards)) cards u (all_built (program_name (map read_of cards)) cards none) s

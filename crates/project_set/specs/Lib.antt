@@ -2,6 +2,7 @@ pub mod MapText
 pub mod Match
 pub mod Rewrite
 pub mod Comments
+pub mod Skeleton
 pub mod Positions
 pub mod Report
 pub mod Variables

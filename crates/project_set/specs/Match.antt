@@ -6,8 +6,9 @@ use Rattle.text_base.specs.Runs.{Final, going, ended, fault}
 use Rattle.tree77.specs.Tree.{SourceProgram}
 use Rattle.tree77.specs.Layout.{Kind, integers, logicals, characters, Sequence, Entity, Layout, layout_of, numeric_place, text_place}
 use Rattle.tree77.specs.Meaning.{Store, run77}
-use Rattle.tree90.specs.Tree.{FreeProgram}
-use Rattle.tree90.specs.Meaning.{Objects, object_integer, object_logical, object_byte, run90}
+use Rattle.tree90.specs.Tree.{Declared, integer_object, FreeProgram}
+use Rattle.tree90.specs.Proper.{declared_name}
+use Rattle.tree90.specs.Meaning.{Objects, object_integer, object_logical, object_byte, declared_in, IsStart, run90}
 use Rattle.project_set.specs.MapText.{MapLine, sequence_text}
 
 -- some entity sees the place with the kind
@@ -38,19 +39,33 @@ pub record OneLine (layout : Layout) (lines : List MapLine) (sequence offset : �
   pub covers : Covers layout line sequence offset kind
   pub only : (other : ℕ) (that : MapLine) → slice_get lines other ≡ Some that → Covers layout that sequence offset kind → other ≡ index
 
--- the line covers places that some entity sees with its kind, and nothing else, and object places count from 1
-pub record IsNeeded (layout : Layout) (line : MapLine) : Type 0 where
+-- a declared object has a place of this number, counted from 1, for values of the kind
+abbrev pub HasPlace : Declared → Kind → ℕ → Type 0
+HasPlace (integer_object x) integers place = place ≡ 1
+HasPlace (integer_object x) logicals place = ⊥
+HasPlace (integer_object x) characters place = ⊥
+
+-- the place is one of an object of this name that a unit of the program declares
+pub record IsObjectPlace (program : FreeProgram) (home object : List ℕ) (kind : Kind) (place : ℕ) : Type 0 where
+  pub declared : Declared
+  pub in_program : Contains (declared_in program) (home, declared)
+  pub named : declared_name declared ≡ object
+  pub has : HasPlace declared kind place
+
+-- The line covers places that some entity sees with its kind, and nothing else, and each stands in a place of an object that
+-- the program declares, of that kind.
+pub record IsNeeded (layout : Layout) (program : FreeProgram) (line : MapLine) : Type 0 where
   pub some : 0 < line.count
-  pub from_one : 1 ≤ line.at
+  pub objects : (offset : ℕ) → line.first ≤ offset → offset < line.first + line.count → IsObjectPlace program line.home line.object line.kind (object_place line offset)
   pub sequence : ℕ
   pub named : sequence_text layout sequence ≡ Some line.sequence
   pub seen : (offset : ℕ) → line.first ≤ offset → offset < line.first + line.count → IsSeen layout sequence offset line.kind
 
--- A map of the layout: for each place and each kind with which some entity sees it exactly one line covers the
+-- A map of the layout to the program: for each place and each kind with which some entity sees it exactly one line covers the
 -- place with that kind, there are no other lines, and different pairs of place and kind have different object places.
-pub record IsMap (layout : Layout) (lines : List MapLine) : Type 0 where
+pub record IsMap (layout : Layout) (program : FreeProgram) (lines : List MapLine) : Type 0 where
   pub one_line : (sequence offset : ℕ) (kind : Kind) → IsSeen layout sequence offset kind → OneLine layout lines sequence offset kind
-  pub no_other : (line : MapLine) → Contains lines line → IsNeeded layout line
+  pub no_other : (line : MapLine) → Contains lines line → IsNeeded layout program line
   pub apart : (s o s' o' : ℕ) (k k' : Kind) (line line' : MapLine) → Contains lines line → Contains lines line'
       → Covers layout line s o k → Covers layout line' s' o' k'
       → line.home ≡ line'.home → line.object ≡ line'.object → object_place line o ≡ object_place line' o'
@@ -91,8 +106,8 @@ Matches layout lines (ended w c) (ended w' c') = IsCarried layout lines w w' × 
 Matches layout lines (ended w c) (fault here' kind') = ⊥
 Matches layout lines (fault here kind) f = Unit {0}
 
--- By the map the written program does what the source does: for every n for which the source runs n statements
--- without fault there are m statements, n or more, after which the two match.
+-- By the map the written program does what the source does, whatever its objects hold at the start: for every n for which
+-- the source runs n statements without fault there are m statements, n or more, after which the two match.
 pub record DoesTheSame (source : SourceProgram) (written : FreeProgram) (lines : List MapLine) : Type 0 where
-  pub is_map : IsMap (layout_of source) lines
-  pub follows : (n : ℕ) → (m : ℕ) × (n ≤ m) × Matches (layout_of source) lines (run77 source n) (run90 written m)
+  pub is_map : IsMap (layout_of source) written lines
+  pub follows : (start : Objects) → IsStart written start → (n : ℕ) → (m : ℕ) × (n ≤ m) × Matches (layout_of source) lines (run77 source n) (run90 start written m)

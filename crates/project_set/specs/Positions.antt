@@ -1,5 +1,5 @@
 -- Where the comments of a source and of a written text stand.
-use Rattle.std.specs.Prelude.{ℕ, zero, suc, ◌+◌, ◌-◌, nat_lt, List, [], ◌∷◌, ◌++◌, map, if◌then◌else◌}
+use Rattle.std.specs.Prelude.{ℕ, zero, suc, ◌+◌, ◌-◌, nat_lt, List, [], ◌∷◌, ◌++◌, length, map, if◌then◌else◌}
 use Rattle.text_base.specs.Cards.{comments}
 use Rattle.text_base.specs.Remarks.{Remark}
 use Rattle.tree77.specs.Tree as source
@@ -7,9 +7,9 @@ use Rattle.tree77.specs.Tree.{SourceUnit, SourceProgram}
 use Rattle.tree90.specs.Tree as free
 use Rattle.tree90.specs.Tree.{FreeUnit, FreeProgram}
 use Rattle.project_set.specs.Rewrite.{remark_of, size_of}
+use Rattle.project_set.specs.Skeleton.{stmt_entries}
 
--- Before or right after the header of a unit, or before an entry of it. The entries of a unit are its executable
--- statements but CONTINUE, and END. Units and entries are counted from 0.
+-- Before or right after the header of a unit, or before an entry of its skeleton. Units and entries are counted from 0.
 pub data Position : Type 0 where
   before_header : ℕ → Position
   after_header : ℕ → Position
@@ -22,12 +22,11 @@ pub record Placed : Type 0 where
 
 -- ---- of a source
 
--- how many entries are among the first statements of a list
+-- how many entries of the skeleton the first statements of a list have
 abbrev pub entries_in : source.Code → ℕ → ℕ
 entries_in source.done k = 0
 entries_in (source.item label here s rest) zero = 0
-entries_in (source.item label here (source.simple a) rest) (suc k) = entries_in rest k + 1
-entries_in (source.item label here source.continue rest) (suc k) = entries_in rest k
+entries_in (source.item label here s rest) (suc k) = length (stmt_entries s) + entries_in rest k
 
 -- the position before a statement of a unit, which is counted from its header on
 abbrev pub position_in : ℕ → SourceUnit → ℕ → Position

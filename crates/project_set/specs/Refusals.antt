@@ -14,19 +14,13 @@ use Rattle.text_base.specs.declared.refusal.Cause.TheVariants.{NotBuilt}
 use Rattle.tree77.specs.Tree.{SourceUnit}
 use Rattle.tree77.specs.Spelling.{Statement, program, action, continue, end}
 use Rattle.tree77.specs.Typing.{is_integer_name, is_variable}
-use Rattle.parse77.specs.Reading.{ReadCard, read_card, read_cards, read_of, read_unit}
+use Rattle.parse77.specs.Unit.{header_name}
+use Rattle.parse77.specs.Reading.{ReadCard, read_card, file_statements, read_of, read_unit}
 use Rattle.tree90.specs.Tree.{simple}
 use Rattle.tree90.specs.Printed.{stmt_text}
 use Rattle.tree90.specs.Proper.{is_sign, is_additive}
 
 -- ---- one statement
-
--- the name that a PROGRAM statement gives
-abbrev pub header_name : Statement → Option (List ℕ)
-header_name (program x) = Some x
-header_name (action a) = None
-header_name continue = None
-header_name end = None
 
 -- the program's name, where the first statement of the file gives one
 abbrev pub program_name : List ReadCard → Option (List ℕ)
@@ -51,15 +45,17 @@ is_built (unary op a) = is_sign op && is_built_operand a
 is_built (binary op a b) = is_additive op && (is_built a && is_built_operand b)
 is_built e = is_built_operand e
 
+-- what is assigned to is a variable, and the expression is converted
 abbrev pub is_built_action : Action → Bool
-is_built_action (assign d e) = is_built e
+is_built_action (assign (name x) e) = is_built e
+is_built_action (assign d e) = false
 is_built_action stop = true
 
 -- the line that is written for the statement has at most 132 characters, and LF
 abbrev pub is_short : Action → Bool
 is_short a = nat_le (length (stmt_text 1 (simple a))) (LONGEST_WRITTEN + 1)
 
--- what can be converted: the expression of a statement is such a one, its variables are integers, and its line fits
+-- what can be converted: the expression of a statement is such a one, its names are those of integer variables, and its line fits
 abbrev pub is_built_statement : Option (List ℕ) → Statement → Bool
 is_built_statement unit (program x) = true
 is_built_statement unit (action a) = is_built_action a && (list_all (is_free_name unit) (action_names a) && is_short a)
@@ -97,4 +93,4 @@ first_of (first ∷ rest) later = first ∷ rest
 -- What is refused of a file: of its size and its lines; where there is nothing, of its statements; and where there is
 -- nothing, of them as a program.
 abbrev pub refusals : List ℕ → List Refusal
-refusals bytes = first_of (files_refusals 0 0 (bytes ∷ [])) (first_of (statement_refusals (cards 0 bytes)) (unit_refusals 0 (read_unit (read_cards 0 bytes))))
+refusals bytes = first_of (files_refusals 0 0 (bytes ∷ [])) (first_of (statement_refusals (cards 0 bytes)) (unit_refusals 0 (read_unit (file_statements 0 bytes))))

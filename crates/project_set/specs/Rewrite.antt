@@ -7,7 +7,7 @@ use Rattle.tree77.specs.Tree.{SourceUnit, SourceProgram}
 use Rattle.tree77.specs.Typing.{variables}
 use Rattle.tree90.specs.Tree as free
 use Rattle.tree90.specs.Tree.{Stmt, integer_object, FreeUnit, FreeProgram}
-use Rattle.tree90.specs.Plain.{Listed, with_item}
+use Rattle.tree90.specs.Plain.{CodeAndTail, with_item}
 
 -- ---- comments
 
@@ -33,7 +33,7 @@ statements_of source.continue = []
 
 -- Statement for statement, from the statement of this number on, each with the comments before it, and then the comments
 -- before END. A CONTINUE is left out, and the comments before it go on to what follows.
-abbrev pub written_list : List Comment → ℕ → List Remark → source.Code → Listed
+abbrev pub written_list : List Comment → ℕ → List Remark → source.Code → CodeAndTail
 written_list cs k left source.done = (free.done, left ++ remarks_at cs k)
 written_list cs k left (source.item label here (source.simple a) rest) = with_item (left ++ remarks_at cs k) (free.simple a) (written_list cs (k + 1) [] rest)
 written_list cs k left (source.item label here source.continue rest) = written_list cs (k + 1) (left ++ remarks_at cs k) rest
@@ -72,5 +72,5 @@ abbrev pub written : List Comment → SourceProgram → FreeProgram
 written cs p = record { units = written_units cs 0 p.units; tail = map remark_of (comments_from cs (sizes_of p.units)) }
 
 -- a list with more comments that no statement of it follows
-abbrev pub with_tail : Listed → List Remark → Listed
+abbrev pub with_tail : CodeAndTail → List Remark → CodeAndTail
 with_tail listed remarks = (listed.0, listed.1 ++ remarks)

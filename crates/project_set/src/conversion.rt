@@ -5,16 +5,18 @@ ghost use Rattle.text_base.specs.Lines.{cut_lines};
 ghost use Rattle.text_base.specs.LineRefusals.{card_refusals};
 ghost use Rattle.card_reader.specs.Deck.{card_of, deck_comments};
 ghost use Rattle.tree77.specs.Plain.{unit_of};
-ghost use Rattle.parse77.specs.Reading.{read_cards};
+ghost use Rattle.parse77.specs.Reading.{file_statements};
 ghost use Rattle.parse77.specs.Statement.{card_read};
 ghost use Rattle.project_set.specs.Comments.{ArePlaced};
 ghost use Rattle.tree90.specs.Printed.{printed};
 ghost use Rattle.project_set.specs.Conversion.{IsConvertible, IsConversion, RefusesWith, program_map};
+ghost use Rattle.project_set.specs.Laws.{IsFaithful};
 ghost use Rattle.project_set.specs.Report.{report_text};
 ghost use Rattle.project_set.specs.Refusals.{statement_refusals};
 ghost use Rattle.project_set.specs.Rewrite.{written};
 
 use crate::comments::Comments;
+use crate::laws::conversions_do_the_same;
 use crate::map::map_of;
 use crate::refusals::statement_refusals;
 use crate::report::{Counts, report};
@@ -43,7 +45,7 @@ pub enum ConvertError {
     #[error("the file is refused")]
     Refused(Refusals),
     /// Want of memory. Nothing is known of the file.
-    #[error("memory is wanting")]
+    #[error("memory is wanted")]
     Memory,
 }
 
@@ -84,7 +86,7 @@ struct Parts {
 // The parts of a file, of which the characters of the statements are kept no longer. What is refused of its lines or of its
 // statements is refused.
 fn read_parts(alloc: Global, bytes: &[u8]) -> Result<Parts, ConvertError>
-    ensures statements { IfOk result (λ parts. map card_read parts.statements ≡ read_cards 0 bytes.now) }
+    ensures statements { IfOk result (λ parts. map card_read parts.statements ≡ file_statements 0 bytes.now) }
     ensures comments { IfOk result (λ parts. 2 ≤ length (cards 0 bytes.now) → ArePlaced (comments bytes.now) (length (cards 0 bytes.now) - 1) parts.comments) }
     ensures cut { IfOk result (λ parts. parts.cut ≡ cut_lines bytes.now) }
     ensures accepted { OnOk result (card_refusals 0 bytes.now ≡ []) }
@@ -156,12 +158,19 @@ fn written_texts(alloc: Global, source: Source) -> Result<Outputs, AllocError>
     })
 }
 
-/// What the file is converted to. Where something is refused of its bytes the list has all of it, and where nothing is
-/// they are the source of the program that is converted.
+/// Converts a file (X3.9 section 3) to Fortran 90.
+///
+/// In: its bytes.
+///
+/// Out: the text of the program, the map of its storage, and the report. Where something is refused of the bytes, `Refused`
+/// with all of it, phase by phase: of the lines, of the statements, of them as a program. `Memory` may come in place of
+/// either where memory is wanted, and tells nothing of the file.
 pub fn convert(alloc: Global, bytes: &[u8]) -> Result<Outputs, ConvertError>
     ensures converts { IfOk result (λ o. IsConversion bytes.now o.text o.map o.report) }
+    ensures headline { IfOk result (λ o. IsFaithful bytes.now o.text o.map) }
     ensures refused { RefusesWith bytes.now result }
 {
+    conversions_do_the_same();
     let source = read_source(alloc, bytes)?;
     Ok(written_texts(alloc, source)?)
 }

@@ -1,7 +1,6 @@
 // What holds of what is written.
 ghost use Rattle.project_set.specs.Laws.{WrittenIsProper, ConversionsDoTheSame};
 
-use card_reader::cards_are_marked;
 use parse77::statements_are_spelled;
 use tree90::{one_reading, printed_is_read};
 
@@ -12,7 +11,6 @@ pub fn written_is_proper()
     ensures { WrittenIsProper }
 {
     statements_are_spelled();
-    cards_are_marked();
 }
 
 /// The text of a source that is converted has exactly one reading, which is a proper program. It does what the source does,

@@ -16,6 +16,10 @@ use Rattle.scan77.proofs.PieceSteps.{pieces_by_flag, plain_text_pieces, constant
 abbrev pieces_at : Bool → List ℕ → List Piece
 pieces_at f text = pieces_from (plain_state f None) no_text text
 
+-- the text of a FORMAT is short
+abbrev IsShortIf : Bool → List ℕ → Type 0
+IsShortIf f text = f ≡ true → length text < most
+
 -- ---- plain text, and what stands behind it
 
 only_plain : (f : Bool) (text : List ℕ) → IsPlain f text → pieces_at f text ≡ plain_pieces text
@@ -56,14 +60,14 @@ with_count f before h inside rest is is_plain some letter counts short =
 
 -- ---- no others
 
-only_pieces : (f : Bool) (text : List ℕ) (pieces : List Piece) → length text < most → IsPieces f text pieces → pieces ≡ pieces_at f text
+only_pieces : (f : Bool) (text : List ℕ) (pieces : List Piece) → IsShortIf f text → IsPieces f text pieces → pieces ≡ pieces_at f text
 only_pieces f text pieces short (pieces_plain is_plain p) = p ∙ sym (only_plain f text is_plain)
 only_pieces f text pieces short (pieces_constant {rest = rest} {more = more} before inside is_plain is_inside differ t next p) =
     let long = ap length t in
     let after = rest_shorter before 39 (inside ++ 39 ∷ rest) in
     let behind = rest_shorter inside 39 rest in
     p
-    ∙ ap (λ (ps : List Piece). plain_pieces before ++ whole (39 ∷ (inside ++ 39 ∷ [])) ∷ ps) (only_pieces f rest more (omega (arith, short, long, after, behind)) next)
+    ∙ ap (λ (ps : List Piece). plain_pieces before ++ whole (39 ∷ (inside ++ 39 ∷ [])) ∷ ps) (only_pieces f rest more (λ is. omega (arith, short is, long, after, behind)) next)
     ∙ sym (with_constant f before inside rest is_plain is_inside differ)
     ∙ ap (pieces_at f) (sym t)
 only_pieces f text pieces short (pieces_open before inside is_plain is_inside t p) =
@@ -73,8 +77,8 @@ only_pieces f text pieces short (pieces_count {rest = rest} {more = more} before
     let after = rest_shorter before h (inside ++ rest) in
     let inner = inner_no_longer inside rest in
     p
-    ∙ ap (λ (ps : List Piece). plain_pieces (before ++ h ∷ []) ++ counted_piece inside ps) (only_pieces f rest more (omega (arith, short, long, after, inner.1)) next)
-    ∙ sym (with_count f before h inside rest is is_plain some letter counts (omega (arith, short, long, after, inner.0)))
+    ∙ ap (λ (ps : List Piece). plain_pieces (before ++ h ∷ []) ++ counted_piece inside ps) (only_pieces f rest more (λ is. omega (arith, short is, long, after, inner.1)) next)
+    ∙ sym (with_count f before h inside rest is is_plain some letter counts (omega (arith, short is, long, after, inner.0)))
     ∙ ap (pieces_at f) (sym t)
 
 -- ---- these
@@ -101,7 +105,7 @@ after_count f text before h inside rest short is is_plain some letter counts e l
     pieces_count before h inside is is_plain some letter counts e (later rest (omega (arith, long, after, inner.1)))
     (ap (pieces_at f) e ∙ with_count f before h inside rest is is_plain some letter counts (omega (arith, short, long, after, inner.0)))
 
-by_first : (f : Bool) (text : List ℕ) → length text < most → ArePiecesBehind f text → First f [] text → IsPieces f text (pieces_at f text)
+by_first : (f : Bool) (text : List ℕ) → IsShortIf f text → ArePiecesBehind f text → First f [] text → IsPieces f text (pieces_at f text)
 by_first f text short later (nowhere quiet) = let is_plain = quiet_plain f text quiet in pieces_plain is_plain (only_plain f text is_plain)
 by_first f text short later (at_apostrophe before rest quiet e) = after_apostrophe f text before rest (quiet_plain f before quiet) e later (ends rest)
 by_first f text short later (at_count before h rest is quiet some letter e) = go (cases_lt (length rest) n)
@@ -111,21 +115,21 @@ by_first f text short later (at_count before h rest is quiet some letter e) = go
 
     go : (length rest < n) ⊎ (n ≤ length rest) → IsPieces f text (pieces_at f text)
     go (inl less) =
-        after_count f text before h rest [] short is (quiet_plain f before quiet) some letter (inr (omega (arith, less), refl))
+        after_count f text before h rest [] (short is) is (quiet_plain f before quiet) some letter (inr (omega (arith, less), refl))
         (e ∙ ap (λ (xs : List ℕ). before ++ h ∷ xs) (sym (append-nil rest))) later
     go (inr enough) =
         let cut = length-take n rest in
-        after_count f text before h (take n rest) (drop n rest) short is (quiet_plain f before quiet) some letter (inl (omega (arith, cut, enough)))
+        after_count f text before h (take n rest) (drop n rest) (short is) is (quiet_plain f before quiet) some letter (inl (omega (arith, cut, enough)))
         (e ∙ ap (λ (xs : List ℕ). before ++ h ∷ xs) (sym (take-append-drop n rest))) later
 
-up_to : (f : Bool) (n : ℕ) (text : List ℕ) → length text ≤ n → length text < most → IsPieces f text (pieces_at f text)
+up_to : (f : Bool) (n : ℕ) (text : List ℕ) → length text ≤ n → IsShortIf f text → IsPieces f text (pieces_at f text)
 up_to f zero text le short = by_first f text short (λ rest less. absurd (omega (arith, le, less))) (first f [] text)
-up_to f (suc n) text le short = by_first f text short (λ rest less. up_to f n rest (omega (arith, le, less)) (omega (arith, short, less))) (first f [] text)
+up_to f (suc n) text le short = by_first f text short (λ rest less. up_to f n rest (omega (arith, le, less)) (λ is. omega (arith, short is, less))) (first f [] text)
 
 -- ---- statements
 
-pub found : (label : ℕ) (text : List ℕ) → length text < most → IsPieces (is_format label text) text (pieces_of label text)
+pub found : (label : ℕ) (text : List ℕ) → IsShortIf (is_format label text) text → IsPieces (is_format label text) text (pieces_of label text)
 found label text short = subst (IsPieces (is_format label text) text) (sym (pieces_by_flag label text)) (up_to (is_format label text) (length text) text (omega arith) short)
 
-pub only : (label : ℕ) (text : List ℕ) (pieces : List Piece) → length text < most → IsPieces (is_format label text) text pieces → pieces ≡ pieces_of label text
+pub only : (label : ℕ) (text : List ℕ) (pieces : List Piece) → IsShortIf (is_format label text) text → IsPieces (is_format label text) text pieces → pieces ≡ pieces_of label text
 only label text pieces short p = only_pieces (is_format label text) text pieces short p ∙ sym (pieces_by_flag label text)

@@ -16,8 +16,8 @@ outline_in (c ∷ t) [] = c ∷ t
 outline_in (c ∷ t) (m ∷ marks) = shown_character m c ∷ outline_in t marks
 
 -- what is left of the outline
-abbrev pub left_of : Outline → List ℕ
-left_of o = outline_in o.text.now o.marks.now
+abbrev pub characters_left : Outline → List ℕ
+characters_left o = outline_in o.text.now o.marks.now
 
 -- the first of some characters, and the others
 abbrev pub uncons : List ℕ → Option (ℕ × List ℕ)

@@ -123,8 +123,9 @@ fn next_token<'a>(pieces: PieceSlice<'a>) -> Option<(Token<'a>, PieceSlice<'a>)>
 ///
 /// In: the pieces of a statement, or a part of them.
 ///
-/// Out: the tokens in order, which lend their characters from the pieces. `NoToken` comes exactly where, behind tokens, a
-/// character constant isn't closed or a character begins no token, and `Memory` for want of memory alone.
+/// Out: the tokens in order, which lend their characters from the pieces; or `NoToken`, exactly where, behind some tokens, a
+/// character constant isn't closed or a character begins no token. `Memory`, where memory is wanted, may come in place of
+/// either.
 pub fn cut<'a>(alloc: Global, pieces: PieceSlice<'a>) -> Result<Tokens<'a>, ScanError>
     ensures cut { IfOk result (λ tokens. IsCut (slice_of pieces.entry) (tokens_of tokens)) }
     ensures stuck { result ≡ Err NoToken → IsStuck (slice_of pieces.entry) }

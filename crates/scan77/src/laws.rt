@@ -4,6 +4,7 @@ ghost use Rattle.std.specs.List.{list_all};
 ghost use Rattle.text_base.specs.Chars.{is_name_byte};
 ghost use Rattle.text_base.specs.Kept.{is_format, kept, read_characters};
 ghost use Rattle.text_base.specs.Pieces.{Piece, plain, IsPieces, piece_text};
+ghost use Rattle.text_base.specs.declared.limits.TheConstants.{GREATEST_COUNT};
 ghost use Rattle.tree77.specs.Kinds.{outline, outline_of, Kind, IsKind, IsFormat};
 ghost use Rattle.tree77.specs.Tokens.{Token, IsCut, IsStuck, StopsAt, token_pieces, run, mark, is_mark};
 ghost use Rattle.scan77.specs.KindReading.{read_kind};
@@ -11,10 +12,11 @@ ghost use Rattle.scan77.specs.PieceReading.{pieces_of};
 ghost use Rattle.scan77.specs.TokenReading.{no_token, read_tokens};
 
 /// A statement has one list of pieces, which the reading of its characters one after another gives, and their characters
-/// are those of the statement as they are read. A statement of a file has fewer characters than the number here.
+/// are those of the statement as they are read. Of a FORMAT this is said where it has fewer characters than the number
+/// here, as each statement of a file has.
 pub fn one_list_of_pieces()
-    ensures found { (label : ℕ) (text : List ℕ) → length text < 4294967295 → IsPieces (is_format label text) text (pieces_of label text) }
-    ensures only { (label : ℕ) (text : List ℕ) (pieces : List Piece) → length text < 4294967295 → IsPieces (is_format label text) text pieces → pieces ≡ pieces_of label text }
+    ensures found { (label : ℕ) (text : List ℕ) → (is_format label text ≡ true → length text < GREATEST_COUNT) → IsPieces (is_format label text) text (pieces_of label text) }
+    ensures only { (label : ℕ) (text : List ℕ) (pieces : List Piece) → (is_format label text ≡ true → length text < GREATEST_COUNT) → IsPieces (is_format label text) text pieces → pieces ≡ pieces_of label text }
     ensures joined { (label : ℕ) (text : List ℕ) → flat_map piece_text (pieces_of label text) ≡ read_characters text (kept label text) }
 {}
 

@@ -1,4 +1,4 @@
-//! The kind of a statement of FORTRAN 77, and its tokens.
+//! The first reading of a statement of FORTRAN 77: its pieces (`pieces`), its kind (`classify`) and its tokens (`cut`).
 #![tactic(auto)]
 
 mod classification;
@@ -7,7 +7,7 @@ mod kind;
 mod laws;
 mod mark;
 mod outline;
-mod parts;
+mod outline_reading;
 mod piece_list;
 mod piece_reader;
 mod piece_slice;

@@ -3,7 +3,7 @@ ghost use Rattle.std.specs.Prelude.{◌≡◌, ◌<◌, length, IfSome};
 ghost use Rattle.std.specs.Option.{option_map};
 ghost use Rattle.tree77.specs.Kinds.{outline_of};
 ghost use Rattle.scan77.specs.PieceSlice.{slice_of};
-ghost use Rattle.scan77.specs.Outline.{left_of, uncons};
+ghost use Rattle.scan77.specs.Outline.{characters_left, uncons};
 
 use crate::PieceSlice;
 use crate::mark::Mark;
@@ -18,7 +18,7 @@ pub struct Outline<'a> {
 impl<'a> Outline<'a> {
     /// All characters of some pieces.
     pub fn of(pieces: PieceSlice<'a>) -> Outline<'a>
-        ensures { left_of result ≡ outline_of (slice_of pieces.entry) }
+        ensures { characters_left result ≡ outline_of (slice_of pieces.entry) }
     {
         Outline {
             text: pieces.text,
@@ -28,7 +28,7 @@ impl<'a> Outline<'a> {
 
     /// The next character, and what is left behind it. An apostrophe stands for each character of kept text.
     pub fn next(self) -> Option<(u8, Outline<'a>)>
-        ensures first { option_map (λ r. (r.0, left_of r.1)) result ≡ uncons (left_of self.entry) }
+        ensures first { option_map (λ r. (r.0, characters_left r.1)) result ≡ uncons (characters_left self.entry) }
         ensures shorter { IfSome result (λ r. length r.1.text.now < length self.entry.text.now) }
     {
         let (byte, text) = self.text.split_first()?;

@@ -169,8 +169,12 @@ impl PieceReader {
     }
 }
 
-/// The pieces of a statement as its characters are read (X3.9 section 3.1.6): outside kept text blanks are left out, and
-/// lower-case letters are read as upper case. It fails for want of memory alone.
+/// Reads the characters of a statement into pieces (X3.9 section 3.1.6).
+///
+/// In: the statement, of which its label and its characters count.
+///
+/// Out: its pieces, in order: outside kept text each character, without blanks and with lower-case letters as upper case, and
+/// each kept text whole. An error comes only where memory is wanted.
 pub fn pieces(alloc: Global, card: &Card) -> Result<Pieces, AllocError>
     ensures { IfOk result (λ made. made ≡ pieces_of card.now.label card.now.text) }
 {

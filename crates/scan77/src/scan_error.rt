@@ -1,4 +1,4 @@
-// Why a statement has no tokens.
+// Why pieces are not cut into tokens.
 ghost use Rattle.std.specs.Prelude.{◌≡◌};
 ghost use Rattle.scan77.specs.declared.scan_error.ScanError.TheVariants.{Memory};
 
@@ -8,11 +8,11 @@ use thiserror::Error;
 /// Why pieces aren't cut into tokens.
 #[derive(Debug, Drop, Error)]
 pub enum ScanError {
-    /// A character constant isn't closed, or a character begins no token.
+    /// Behind some tokens a character constant isn't closed, or a character begins no token: the pieces have no cut.
     #[error("a character constant is not closed, or a character begins no token")]
     NoToken,
-    /// Want of memory. Nothing is known of the pieces.
-    #[error("memory is wanting")]
+    /// Memory is wanted. Nothing is known of the pieces.
+    #[error("memory is wanted")]
     Memory,
 }
 

@@ -12,7 +12,7 @@ pub enum TokenKind {
     Mark,
 }
 
-/// A token: what it is, and its characters, which are lent from the pieces.
+/// A token: its kind, and its characters, which are lent from the pieces.
 #[derive(Clone, Copy, Debug)]
 pub struct Token<'a> {
     pub kind: TokenKind,

@@ -5,6 +5,7 @@ use Rattle.std.specs.List.{list_all, take_while, zip}
 use Rattle.std.specs.Str.{bytes_eq}
 use Rattle.std.specs.Str.Parse.{digits_value}
 use Rattle.text_base.specs.Chars.{is_digit, to_upper, without_blanks, characters}
+use Rattle.text_base.specs.declared.limits.TheConstants.{GREATEST_COUNT}
 
 -- ---- by pieces
 
@@ -73,7 +74,7 @@ scan_start label = record { matched = if label == 0 then 8 else 0; inside = fals
 -- a number with one more digit; a statement has fewer characters than the greatest number here
 abbrev pub more_count : Option ℕ → ℕ → Option ℕ
 more_count None c = Some (c - 48)
-more_count (Some n) c = Some (min (10 * n + (c - 48)) 4294967295)
+more_count (Some n) c = Some (min (10 * n + (c - 48)) GREATEST_COUNT)
 
 -- how many characters of `FORMAT(` the statement begins with, after one more that isn't blank
 abbrev pub more_matched : ℕ → ℕ → ℕ

@@ -15,7 +15,7 @@ abbrev pub Fault : Type 0
 Fault = Cause × List ℕ
 
 -- The lines so far of a statement: its label, the characters of the lines that aren't refused, and how many
--- continuation lines it has, refused ones too.
+-- continuation lines it has since the last initial line, refused ones too.
 pub record Begun : Type 0 where
   pub label : ℕ
   pub text : List ℕ
@@ -88,10 +88,16 @@ abbrev pub begun_with : Begun → Option Fault → List ℕ → Begun
 begun_with b None l = record b { text = b.text ++ statement_field l }
 begun_with b (Some fault) l = b
 
--- an initial line that is refused leaves no label
-abbrev pub begun_new : Option Fault → List ℕ → Begun
-begun_new None l = begun_with (begun_by l) None l
-begun_new (Some fault) l = record { label = 0; text = []; continued = 0 }
+-- An initial line that is refused is left out: the lines that follow belong to the statement before it, of which the
+-- continuation lines are counted anew. Where none stands before it, they belong to one without label and characters.
+abbrev pub begun_anew : Option Begun → Begun
+begun_anew None = record { label = 0; text = []; continued = 0 }
+begun_anew (Some b) = record b { continued = 0 }
+
+-- the lines so far of a statement, after an initial line
+abbrev pub begun_new : Option Begun → Option Fault → List ℕ → Begun
+begun_new b None l = begun_with (begun_by l) None l
+begun_new b (Some fault) l = begun_anew b
 
 abbrev pub begun_more : Option Fault → List ℕ → Begun → Begun
 begun_more fault l b = let more = begun_with b fault l in record more { continued = b.continued + 1 }
@@ -100,7 +106,7 @@ begun_more fault l b = let more = begun_with b fault l in record more { continue
 abbrev pub begun_after : Option Begun → List ℕ → Option Begun
 begun_after b l =
     if is_comment l then b
-    else (if is_initial l then Some (begun_new (line_fault b l) l) else option_map (begun_more (line_fault b l) l) b)
+    else (if is_initial l then Some (begun_new b (line_fault b l) l) else option_map (begun_more (line_fault b l) l) b)
 
 -- a fault as a refusal at a line
 abbrev pub refused_at : ℕ → ℕ → Option Fault → List Refusal

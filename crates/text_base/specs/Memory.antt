@@ -5,6 +5,8 @@ use Rattle.std.specs.List.{list_any}
 use Rattle.std.specs.FinMap as map
 use Rattle.std.specs.Coded.{Coded, code_by, coded×, coded_ℕ, coded_list}
 use Rattle.text_base.specs.Files.{Files}
+use Rattle.text_base.specs.declared.shelf.ShelfWrite.{ShelfWrite}
+use Rattle.text_base.specs.declared.shelf.ShelfWrite.TheVariants as write
 use Rattle.text_base.specs.declared.sink.SinkError.{SinkError}
 use Rattle.text_base.specs.declared.sink.SinkError.TheVariants.{Failed, Memory}
 
@@ -18,12 +20,13 @@ pub record ShelfState : Type 0 where
   pub read_faults : ℕ
   pub write_faults : ℕ
   pub absences : ℕ
+  pub denials : ℕ
 
 abbrev pub shelf_code : Coded ShelfState
-shelf_code = code_by (Files × (List ℕ × (List ℕ × (ℕ × (ℕ × (ℕ × (ℕ × ℕ)))))))
-    (coded× (map.code (coded_list coded_ℕ) (coded_list coded_ℕ)) (coded× (coded_list coded_ℕ) (coded× (coded_list coded_ℕ) (coded× coded_ℕ (coded× coded_ℕ (coded× coded_ℕ (coded× coded_ℕ coded_ℕ)))))))
-    (λ s. (s.files, (s.failing_reads, (s.failing_writes, (s.reads, (s.writes, (s.read_faults, (s.write_faults, s.absences))))))))
-    (λ p. record { files = p.0; failing_reads = p.1.0; failing_writes = p.1.1.0; reads = p.1.1.1.0; writes = p.1.1.1.1.0; read_faults = p.1.1.1.1.1.0; write_faults = p.1.1.1.1.1.1.0; absences = p.1.1.1.1.1.1.1 })
+shelf_code = code_by (Files × (List ℕ × (List ℕ × (ℕ × (ℕ × (ℕ × (ℕ × (ℕ × ℕ))))))))
+    (coded× (map.code (coded_list coded_ℕ) (coded_list coded_ℕ)) (coded× (coded_list coded_ℕ) (coded× (coded_list coded_ℕ) (coded× coded_ℕ (coded× coded_ℕ (coded× coded_ℕ (coded× coded_ℕ (coded× coded_ℕ coded_ℕ))))))))
+    (λ s. (s.files, (s.failing_reads, (s.failing_writes, (s.reads, (s.writes, (s.read_faults, (s.write_faults, (s.absences, s.denials)))))))))
+    (λ p. record { files = p.0; failing_reads = p.1.0; failing_writes = p.1.1.0; reads = p.1.1.1.0; writes = p.1.1.1.1.0; read_faults = p.1.1.1.1.1.0; write_faults = p.1.1.1.1.1.1.0; absences = p.1.1.1.1.1.1.1.0; denials = p.1.1.1.1.1.1.1.1 })
     (λ _. refl)
 
 -- the bytes, the numbers of the calls that are to fail, how many calls there were, the counts, and the most that one call takes
@@ -67,13 +70,11 @@ after_read s name = record s {
   absences = if read_misses s name then counted s.absences else s.absences;
 }
 
--- How a shelf is after a write that left this map. The call is counted, and its fault.
-abbrev pub after_write : ShelfState → Files → ShelfState
-after_write s files = record s {
-  files = files;
-  writes = counted s.writes;
-  write_faults = if write_fails s then counted s.write_faults else s.write_faults;
-}
+-- How a shelf is after a write with this answer, which left this map. The call is counted, and its fault or want of memory.
+abbrev pub after_write : {A : Type 0} → ShelfState → Result A ShelfWrite → Files → ShelfState
+after_write s (Ok value) files = record s { files = files; writes = counted s.writes }
+after_write s (Err write.Failed) files = record s { files = files; writes = counted s.writes; write_faults = counted s.write_faults }
+after_write s (Err write.Memory) files = record s { files = files; writes = counted s.writes; denials = counted s.denials }
 
 -- How a sink is after it gave the answer to the piece. The call is counted, and its fault or want of memory.
 abbrev pub after_put : SinkState → List ℕ → Result ℕ SinkError → SinkState

@@ -2,6 +2,7 @@
 use Rattle.std.specs.Prelude.{ℤ, pos, negsuc, ◌+ℤ◌, ◌-ℤ◌, neg_ℤ, Bool, ◌&&◌, if◌then◌else◌}
 use Rattle.std.specs.Int.Signed.{le_z}
 use Rattle.text_base.specs.Trees.{UnaryOp, plus, minus, negation, BinaryOp, add, subtract}
+use Rattle.text_base.specs.declared.limits.TheConstants.{GREATEST_INTEGER}
 use Rattle.text_base.specs.Values.{Value, integer, RunFault, Overflow, NoMeaning}
 
 -- what an operation gives
@@ -9,9 +10,9 @@ pub data Computed : Type 0 where
   computes : Value → Computed
   faults : RunFault → Computed
 
--- integers go from -2147483648 to 2147483647
+-- integers go from one below the negative of the greatest to the greatest
 abbrev pub is_integer : ℤ → Bool
-is_integer z = le_z (negsuc 2147483647) z && le_z z (pos 2147483647)
+is_integer z = le_z (negsuc GREATEST_INTEGER) z && le_z z (pos GREATEST_INTEGER)
 
 -- an exact result, or the fault where it is out of the range
 abbrev pub in_range : ℤ → Computed

@@ -26,7 +26,7 @@ impl Bytes {
         }
     }
 
-    /// A copy of the bytes.
+    /// A copy of the bytes. It fails for want of memory alone.
     pub fn from_slice(alloc: Global, bytes: &[u8]) -> Result<Bytes, AllocError>
         ensures { IfOk result (λ made. made ≡ bytes.now) }
     {

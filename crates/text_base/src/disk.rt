@@ -1,13 +1,17 @@
 // The outside as it is: files by their paths, and standard output. Neither tells what it holds.
-ghost use Rattle.std.specs.Prelude.{◌≡◌, ◌+◌, ◌≤◌, ◌++◌, List, ℕ, None, IfSome, OnOk, IsErrOf, ◌↔◌, vec_len};
+ghost use Rattle.std.specs.Prelude.{◌≡◌, ◌+◌, ◌≤◌, ◌++◌, List, ℕ, None, Err, IfSome, OnOk, IsErrOf, ◌↔◌, vec_len};
+ghost use Rattle.text_base.specs.Faults.{Rose};
 
+use crate::limits::LARGEST_PROJECT;
 use crate::{Shelf, ShelfRead, ShelfWrite, Sink, SinkError};
-use std::fs;
+use std::alloc::Global;
+use std::fs::{self, Metadata, OpenFile};
 use std::io::{self, ErrorKind, Read, Write};
+use std::os::unix::fs::MetadataExt;
 use std::rt::Files;
 
-/// The most bytes that are taken of a file. A longer file counts as a fault.
-const MOST: u64 = 67_108_865;
+/// The most bytes that are taken of a file: one more than a project may have. A longer file counts as a fault.
+const MOST: u64 = LARGEST_PROJECT as u64 + 1;
 
 // How a read fails where the file couldn't be opened.
 fn cause_of(kind: ErrorKind) -> ShelfRead
@@ -37,29 +41,89 @@ fn take_all<F: Read + Drop>(file: F, into: &mut Vec<u8>) -> Result<(), ShelfRead
     }
 }
 
-/// The files of the machine by their paths. It tells nothing of what it holds. It counts each read fault,
-/// write fault and absence; want of memory is none of these.
+/// Which file it is on this machine, by whatever path it is reached: its device, and its number there.
+#[derive(Clone, Copy, Debug, PartialEq, Eq)]
+struct FileId {
+    device: u64,
+    number: u64,
+}
+
+impl FileId {
+    /// The file of which this is told.
+    fn of(metadata: &Metadata) -> FileId {
+        FileId {
+            device: metadata.dev(),
+            number: metadata.ino(),
+        }
+    }
+}
+
+/// The files of the machine by their paths. It tells nothing of what it holds. It counts each read fault, each absence, each
+/// write fault, and each write that wanted memory. A file that was read through it is never written by it, by whatever path it
+/// is reached: a relative path, a symbolic link or another name of the same file. Such a write is a write fault, and the file
+/// stays as it was.
 #[derive(Drop)]
 pub struct DiskShelf<'a, R> {
     rt: &'a R,
+    sources: Vec<FileId>,
     read_faults: u64,
     write_faults: u64,
     absences: u64,
+    denials: u64,
 }
 
 impl<'a, R: Files> DiskShelf<'a, R> {
-    /// Its counts are 0.
-    pub fn new(rt: &'a R) -> DiskShelf<'a, R>
+    /// Its counts are 0, and no file was read through it. It takes no memory yet.
+    pub fn new(alloc: Global, rt: &'a R) -> DiskShelf<'a, R>
         ensures reads { ⟦<DiskShelf<'a, R> as Shelf>⟧.read_faults result ≡ 0 }
         ensures writes { ⟦<DiskShelf<'a, R> as Shelf>⟧.write_faults result ≡ 0 }
         ensures absences { ⟦<DiskShelf<'a, R> as Shelf>⟧.absences result ≡ 0 }
+        ensures denials { ⟦<DiskShelf<'a, R> as Shelf>⟧.denials result ≡ 0 }
     {
         DiskShelf {
             rt,
+            sources: Vec::new(alloc),
             read_faults: 0,
             write_faults: 0,
             absences: 0,
+            denials: 0,
         }
+    }
+}
+
+impl<R: Files> DiskShelf<'_, R> {
+    // Opens a file to read it, and remembers which one it is.
+    fn open(&mut self, name: &str) -> Result<R::File, ShelfRead>
+        ensures others { self.new ≡ record self.old { sources = self.new.sources } }
+    {
+        let opened = fs::open(self.rt, name);
+        let file = opened.map_err(|error| cause_of(error.kind()))?;
+        let Ok(metadata) = file.metadata() else {
+            return Err(ShelfRead::Failed);
+        };
+        match self.sources.push(FileId::of(&metadata)) {
+            Ok(()) => Ok(file),
+            Err(_) => Err(ShelfRead::Memory),
+        }
+    }
+
+    // Whether a path leads to a file that was read through this shelf.
+    fn is_source(&self, name: &str) -> bool {
+        match fs::metadata(self.rt, name) {
+            Ok(metadata) => self.sources.contains(&FileId::of(&metadata)),
+            Err(_) => false,
+        }
+    }
+
+    // Counts a write fault.
+    fn refuse(&mut self) -> Result<(), ShelfWrite>
+        ensures failed { result ≡ Err ShelfWrite.Failed }
+        ensures counted { Rose self.old.write_faults self.new.write_faults }
+        ensures count { self.old.write_faults ≤ self.new.write_faults }
+        ensures others { self.new ≡ record self.old { write_faults = self.new.write_faults } }
+    {
+        self.write_faults = self.write_faults.saturating_add(1);
+        Err(ShelfWrite::Failed)
     }
 }
 
@@ -72,12 +136,14 @@ impl<R: Files> Shelf for DiskShelf<'_, R> {
 
     ghost absences = { λ s. s.absences };
 
+    ghost denials = { λ s. s.denials };
+
     ghost reliable = { λ s. ⊥ };
 
     fn read(&mut self, name: &str, into: &mut Vec<u8>) -> Result<(), ShelfRead> {
-        let outcome = match fs::open(self.rt, name) {
+        let outcome = match self.open(name) {
             Ok(file) => take_all(file, into),
-            Err(error) => Err(cause_of(error.kind())),
+            Err(cause) => Err(cause),
         };
         match outcome {
             Err(ShelfRead::Missing) => self.absences = self.absences.saturating_add(1),
@@ -88,18 +154,22 @@ impl<R: Files> Shelf for DiskShelf<'_, R> {
     }
 
     fn write(&mut self, name: &str, bytes: &[u8]) -> Result<(), ShelfWrite> {
+        if self.is_source(name) {
+            return self.refuse();
+        }
         match fs::write(self.rt, name, bytes) {
             Ok(()) => Ok(()),
-            Err(error) if error.kind() == ErrorKind::OutOfMemory => Err(ShelfWrite::Memory),
-            Err(_) => {
-                self.write_faults = self.write_faults.saturating_add(1);
-                Err(ShelfWrite::Failed)
+            Err(error) if error.kind() == ErrorKind::OutOfMemory => {
+                self.denials = self.denials.saturating_add(1);
+                Err(ShelfWrite::Memory)
             }
+            Err(_) => self.refuse(),
         }
     }
 }
 
-/// Standard output. It tells nothing of what was written, and counts each `Err`.
+/// Standard output. It tells nothing of what was written. It counts as a fault each call that fails but for want of memory, and
+/// each that takes nothing of a piece that isn't empty; want of memory is counted apart.
 #[derive(Drop)]
 pub struct StdSink<'a, P> {
     rt: &'a P,

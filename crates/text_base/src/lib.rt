@@ -1,4 +1,5 @@
-//! Bytes, names, places, causes of refusal, and the outside: a shelf of named files and a sink of text.
+//! What every crate stands on: bytes, names, places, comments, causes of refusal, limits, and the outside, which is a shelf of
+//! named files and a sink of text; the definitions of lines, cards, kept text, pieces, plain trees, values and evaluation.
 #![tactic(auto)]
 
 mod bytes;

@@ -21,11 +21,17 @@ pub const LONGEST_NAME: usize = 31;
 /// The greatest integer, and the greatest integer constant.
 pub const GREATEST_INTEGER: u64 = 2_147_483_647;
 
+/// The greatest count that is read before the H of a FORMAT; a greater one counts as this. A statement has fewer characters.
+pub const GREATEST_COUNT: u32 = 4_294_967_295;
+
 /// How deep the parentheses of a statement may nest.
 pub const DEEPEST_NESTING: usize = 200;
 
 /// The most characters of a written line.
 pub const LONGEST_WRITTEN: usize = 132;
+
+/// The most blanks that a written line begins with.
+pub const MOST_INDENTED: usize = 60;
 
 /// The most characters of a statement that its refusal shows.
 pub const MOST_SHOWN: usize = 12;

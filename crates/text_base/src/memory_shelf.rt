@@ -23,6 +23,7 @@ pub struct MemoryShelf {
     read_faults: u64,
     write_faults: u64,
     absences: u64,
+    denials: u64,
 }
 
 impl Model for MemoryShelf {
@@ -42,13 +43,14 @@ impl Model for MemoryShelf {
       read_faults = s.read_faults;
       write_faults = s.write_faults;
       absences = s.absences;
+      denials = s.denials;
     } };
 }
 
 impl MemoryShelf {
     /// Holds nothing. No call is to fail, and none was made.
     pub fn new(alloc: Global) -> MemoryShelf
-        ensures { result ≡ record { files = map.empty; failing_reads = []; failing_writes = []; reads = 0; writes = 0; read_faults = 0; write_faults = 0; absences = 0 } }
+        ensures { result ≡ record { files = map.empty; failing_reads = []; failing_writes = []; reads = 0; writes = 0; read_faults = 0; write_faults = 0; absences = 0; denials = 0 } }
     {
         MemoryShelf {
             alloc,
@@ -60,10 +62,11 @@ impl MemoryShelf {
             read_faults: 0,
             write_faults: 0,
             absences: 0,
+            denials: 0,
         }
     }
 
-    /// Makes the name hold the bytes. It counts no call.
+    /// Makes the name hold the bytes. It counts no call. After want of memory all is as before.
     pub fn hold(&mut self, name: &str, bytes: &[u8]) -> Result<(), AllocError>
         ensures ok { OnOk result (self.new ≡ record self.old { files = map.insert self.old.files name.now bytes.now }) }
         ensures err { OnErr result (self.new ≡ self.old) }
@@ -86,7 +89,7 @@ impl MemoryShelf {
         None
     }
 
-    /// Lets the read call of this number fail.
+    /// Lets the read call of this number fail. After want of memory all is as before.
     pub fn fail_read(&mut self, number: u64) -> Result<(), AllocError>
         ensures ok { OnOk result (self.new ≡ record self.old { failing_reads = self.old.failing_reads ++ number ∷ [] }) }
         ensures err { OnErr result (self.new ≡ self.old) }
@@ -95,7 +98,7 @@ impl MemoryShelf {
         Ok(())
     }
 
-    /// Lets the write call of this number fail.
+    /// Lets the write call of this number fail. After want of memory all is as before.
     pub fn fail_write(&mut self, number: u64) -> Result<(), AllocError>
         ensures ok { OnOk result (self.new ≡ record self.old { failing_writes = self.old.failing_writes ++ number ∷ [] }) }
         ensures err { OnErr result (self.new ≡ self.old) }
@@ -114,10 +117,12 @@ impl Shelf for MemoryShelf {
 
     ghost absences = { λ s. s.absences };
 
+    ghost denials = { λ s. s.denials };
+
     ghost reliable = { λ s. (s.failing_reads ≡ []) × (s.failing_writes ≡ []) };
 
-    /// It fails exactly where the number of the call is among those that are to fail, and else a name
-    /// that isn't held is missing.
+    /// It answers `Failed` exactly where the number of the call is among those that are to fail, and else `Missing` exactly where
+    /// the name isn't held. After any error nothing is appended.
     fn read(&mut self, name: &str, into: &mut Vec<u8>) -> Result<(), ShelfRead>
         ensures fails { IsErrOf result ShelfRead.Failed ↔ IsTrue (read_fails self.old) }
         ensures misses { IsErrOf result ShelfRead.Missing ↔ IsTrue (read_misses self.old name.now) }
@@ -144,14 +149,15 @@ impl Shelf for MemoryShelf {
         }
     }
 
-    /// It fails exactly where the number of the call is among those that are to fail. After an error
-    /// the map is as before.
+    /// It answers `Failed` exactly where the number of the call is among those that are to fail. After an error the map is as
+    /// before.
     fn write(&mut self, name: &str, bytes: &[u8]) -> Result<(), ShelfWrite>
         ensures fails { IsErrOf result ShelfWrite.Failed ↔ IsTrue (write_fails self.old) }
         ensures written { OnOk result
-            (self.new ≡ after_write self.old (map.insert self.old.files name.now bytes.now)) }
-        ensures nothing_written { OnErr result (self.new ≡ after_write self.old self.old.files) }
+            (self.new ≡ after_write self.old result (map.insert self.old.files name.now bytes.now)) }
+        ensures nothing_written { OnErr result (self.new ≡ after_write self.old result self.old.files) }
         ensures write_count { self.old.write_faults ≤ self.new.write_faults }
+        ensures denial_count { self.old.denials ≤ self.new.denials }
     {
         self.writes = self.writes.saturating_add(1);
         if self.failing_writes.contains(&self.writes) {
@@ -160,7 +166,10 @@ impl Shelf for MemoryShelf {
         }
         match self.hold(name, bytes) {
             Ok(()) => Ok(()),
-            Err(_) => Err(ShelfWrite::Memory),
+            Err(_) => {
+                self.denials = self.denials.saturating_add(1);
+                Err(ShelfWrite::Memory)
+            }
         }
     }
 }

@@ -52,7 +52,7 @@ impl MemorySink {
         }
     }
 
-    /// Lets the call of this number fail.
+    /// Lets the call of this number fail. After want of memory all is as before.
     pub fn fail_put(&mut self, number: u64) -> Result<(), AllocError>
         ensures ok { OnOk result (self.new ≡ record self.old { failing_puts = self.old.failing_puts ++ number ∷ [] }) }
         ensures err { OnErr result (self.new ≡ self.old) }
@@ -78,8 +78,8 @@ impl Sink for MemorySink {
 
     ghost reliable = { λ s. s.failing_puts ≡ [] };
 
-    /// It fails exactly where the number of the call is among those that are to fail, and else takes
-    /// as many bytes as it may.
+    /// It answers `Failed` exactly where the number of the call is among those that are to fail, and else takes as many bytes as
+    /// it may. After an error nothing is appended.
     fn put(&mut self, piece: &[u8]) -> Result<usize, SinkError>
         ensures fails { IsErrOf result SinkError.Failed ↔ IsTrue (put_fails self.old) }
         ensures takes { IfOk result (λ count. count ≡ min (length piece.now) self.old.most) }

@@ -7,7 +7,8 @@ use crate::Bytes;
 use sqlite_items::Items;
 use std::alloc::{AllocError, Global};
 
-/// Files count from 0 in the order of the sources, lines from 1. Line 0 is the whole file.
+/// Where something stands: the number of the file, from 0 in the order of the sources, and that of the line, from 1. Line 0
+/// stands for the whole file.
 #[derive(Clone, Copy, Debug, PartialEq, Eq)]
 pub struct Place {
     pub file: u32,
@@ -162,7 +163,7 @@ pub struct Refusal {
 /// A list of refusals, which contracts see as the list.
 pub type Refusals = Items<Refusal>;
 
-/// The list of the one refusal of a file that isn't converted yet: `99 NotBuilt 0` at line 0.
+/// The list of the one refusal of a file that isn't converted yet: `99 NotBuilt 0` at line 0. It fails for want of memory alone.
 pub fn not_built(alloc: Global, file: u32) -> Result<Refusals, AllocError>
     ensures { IfOk result (λ refusals. refusals ≡ not_built file ∷ []) }
 {

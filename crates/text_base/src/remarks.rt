@@ -47,10 +47,11 @@ impl Remarks {
     }
 
     /// Puts a comment last: whether it is marked, and its text, which has no LF and, where it is not marked, blanks alone.
-    /// It fails for want of memory alone, and then nothing is known of the comments but that they can be written.
+    /// It fails for want of memory alone, and then they are as before.
     pub fn push(&mut self, marked: bool, text: &[u8]) -> Result<(), AllocError>
         requires { is_writable_remark (record { marked = marked; text = text.now }) ≡ true }
-        ensures { OnOk result (self.new ≡ self.old ++ record { marked = marked; text = text.now } ∷ []) }
+        ensures ok { OnOk result (self.new ≡ self.old ++ record { marked = marked; text = text.now } ∷ []) }
+        ensures err { OnErr result (self.new ≡ self.old) }
     {
         let before = self.lines.as_slice().len();
         let outcome = write_line(&mut self.lines, marked, text);
@@ -60,9 +61,10 @@ impl Remarks {
         outcome
     }
 
-    /// Puts comments last. It fails for want of memory alone.
+    /// Puts comments last. It fails for want of memory alone, and then they are as before.
     pub fn extend(&mut self, more: &Remarks) -> Result<(), AllocError>
-        ensures { OnOk result (self.new ≡ self.old ++ more.now) }
+        ensures ok { OnOk result (self.new ≡ self.old ++ more.now) }
+        ensures err { OnErr result (self.new ≡ self.old) }
     {
         self.lines.extend(more.lines.as_slice())
     }

@@ -6,12 +6,12 @@ ghost use Rattle.text_base.specs.Put.{taken};
 
 use thiserror::Error;
 
-/// How a put fails.
+/// How a put fails: the text can't be written, or memory is wanted for it.
 #[derive(Clone, Copy, Debug, PartialEq, Eq, Error)]
 pub enum SinkError {
     #[error("the text could not be written")]
     Failed,
-    #[error("out of memory")]
+    #[error("memory is wanted")]
     Memory,
 }
 
@@ -29,8 +29,9 @@ pub trait Sink {
     /// No call fails.
     ghost reliable: { Self → Type 0 };
 
-    /// Appends a first part of the piece, and answers its length in bytes. After an error nothing
-    /// was appended. A caller treats 0 for a piece that isn't empty as a fault.
+    /// Appends a first part of the piece, and answers its length in bytes. `Failed`: a fault, which is counted. `Memory`: memory
+    /// is wanted, which is counted. After an error nothing was appended. 0 for a piece that isn't empty is counted as a fault,
+    /// and a caller treats it as one.
     fn put(&mut self, piece: &[u8]) -> Result<usize, SinkError>
         ensures part { IfOk result (λ count. count ≤ length piece.now) }
         ensures appends { written self.new ≡ append_known (written self.old) (taken result piece.now) }

@@ -139,7 +139,7 @@ pub data AreLexemes : List Piece → List Lexeme → Type 0 where
   lexemes_none : {pieces : List Piece} {lexemes : List Lexeme} → pieces ≡ [] → lexemes ≡ [] → AreLexemes pieces lexemes
   lexemes_more : {pieces first rest : List Piece} {lexemes others : List Lexeme} {i : Lexeme} → pieces ≡ first ++ rest → IsLexeme first i → AreLexemes rest others → lexemes ≡ i ∷ others → AreLexemes pieces lexemes
 
--- ---- what an lexeme stands for in the grammar
+-- ---- what a lexeme stands for in the grammar
 
 -- the number that digits stand for, in base ten, behind others
 abbrev pub decimal_from : ℕ → List ℕ → ℕ
@@ -152,7 +152,7 @@ decimal digits = decimal_from 0 digits
 abbrev pub is_small : List ℕ → Bool
 is_small digits = nat_le (decimal digits) GREATEST_INTEGER
 
--- The symbol of an lexeme. A part that is refused stands where an accepted one may stand: 0 for a constant, and the first
+-- The symbol of a lexeme. A part that is refused stands where an accepted one may stand: 0 for a constant, and the first
 -- 31 characters for a longer name.
 abbrev pub symbol_of : Lexeme → Symbol
 symbol_of (integer digits) = symbol.operand (e.int (pos (if is_small digits then decimal digits else 0)))
@@ -175,7 +175,7 @@ pub record Part : Type 0 where
   pub cause : Cause
   pub shown : List ℕ
 
--- the refused part that an lexeme is, where so many parentheses are open before it
+-- the refused part that a lexeme is, where so many parentheses are open before it
 abbrev pub part_of : ℕ → Lexeme → List Part
 part_of depth (integer digits) = if is_small digits then [] else record { cause = ConstantRange; shown = take MOST_SHOWN digits } ∷ []
 part_of depth constant = record { cause = Unsupported; shown = codes "CONSTANT" } ∷ []
@@ -184,7 +184,7 @@ part_of depth alternate = record { cause = Unsupported; shown = codes "RETURN" }
 part_of depth opening = if nat_lt depth DEEPEST_NESTING then [] else record { cause = Unsupported; shown = codes "DEPTH" } ∷ []
 part_of depth _ = []
 
--- how many parentheses are open behind an lexeme
+-- how many parentheses are open behind a lexeme
 abbrev pub depth_behind : ℕ → Lexeme → ℕ
 depth_behind depth opening = depth + 1
 depth_behind depth closing = depth - 1

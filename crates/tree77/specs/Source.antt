@@ -32,7 +32,7 @@ SpellsUnit [] unit = ⊥
 SpellsUnit (card ∷ rest) unit = SpellsCard card (program unit.name) × (unit.place ≡ card.place) × SpellsCode rest unit.code unit.end
 
 -- The bytes of the file are the source of the program: none of its lines is refused, and its cards spell one main
--- program, whose variables are integers.
+-- program, whose names are those of integer variables.
 pub record IsSource (file : ℕ) (bytes : List ℕ) (p : SourceProgram) : Type 0 where
   pub unit : SourceUnit
   pub accepted : card_refusals file bytes ≡ []

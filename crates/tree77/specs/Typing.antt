@@ -1,4 +1,4 @@
--- The variables of a unit, and their types.
+-- The names of the variables of a unit, and whether they are those of integers.
 use Rattle.std.specs.Prelude.{ℕ, Bool, not, ◌&&◌, nat_le, List, [], ◌∷◌, ◌++◌, filter, slice_index}
 use Rattle.std.specs.List.{list_all}
 use Rattle.std.specs.Str.{bytes_eq}
@@ -19,18 +19,18 @@ abbrev pub first_seen : List (List ℕ) → List (List ℕ)
 first_seen [] = []
 first_seen (x ∷ xs) = x ∷ filter (λ y. not (bytes_eq x y)) (first_seen xs)
 
--- the variables of a unit by first appearance
+-- the names of the variables of a unit, by first appearance
 abbrev pub variables : SourceUnit → List (List ℕ)
 variables unit = first_seen (code_names unit.code)
 
--- without a declaration a name is of type integer where it begins with I to N (X3.9 section 4.1.2)
+-- without a declaration a name is that of an integer where it begins with I to N (X3.9 section 4.1.2)
 abbrev pub is_integer_name : List ℕ → Bool
 is_integer_name x = nat_le 73 (slice_index x 0) && nat_le (slice_index x 0) 78
 
--- a name of the unit that is an integer variable: it isn't the unit's own name (X3.9 section 18.1)
+-- in a unit with this name, a name is that of an integer variable: it isn't the unit's own (X3.9 section 18.1)
 abbrev pub is_variable : List ℕ → List ℕ → Bool
 is_variable unit x = is_integer_name x && not (bytes_eq unit x)
 
--- each name of the unit is an integer variable
+-- each name in the statements of the unit is that of an integer variable
 abbrev pub is_typed : SourceUnit → Bool
 is_typed unit = list_all (is_variable unit.name) (code_names unit.code)

@@ -4,4 +4,4 @@
 mod tree;
 
 pub use expr_tree::{BinaryOp, Expr, Exprs, UnaryOp};
-pub use tree::{Body77, EndIf, Item77, Items77, Program77, Stmt77, Unit77, UnitKind, Units77};
+pub use tree::{Body77, Item77, Items77, Stmt77, Unit77, UnitKind};

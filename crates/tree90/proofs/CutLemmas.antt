@@ -7,13 +7,14 @@ use Rattle.text_base.specs.Remarks.{Remark, remark_text, remarks_text, is_writab
 use Rattle.text_base.specs.Chars.{is_name_byte}
 use Rattle.text_base.proofs.CharTests.{all_append}
 use Rattle.text_base.proofs.RemarkLines.{cut_line}
-use Rattle.tree90.specs.FreeText.{tokens, FreeLine, comment_line, statement_line, starts_comment, line_of, comment_lines}
+use Rattle.text_base.specs.declared.limits.TheConstants.{MOST_INDENTED}
+use Rattle.tree90.specs.FreeText.{tokens, FreeLine, comment_line, statement_line, starts_comment, free_line_of, comment_lines}
 use Rattle.tree90.specs.Printed.{line}
 use Rattle.tree90.proofs.TokenLemmas.{has_no_break, name_byte}
 
 -- the lines of a text
 abbrev pub lines_of : List ℕ → List FreeLine
-lines_of text = map line_of (cut text)
+lines_of text = map free_line_of (cut text)
 
 -- ---- lines of statements
 
@@ -40,7 +41,7 @@ no_blank zero (c ∷ text) e = ap (λ b. b && is_blank text) (name_byte c e).unb
 no_blank (suc n) text e = no_blank n text e
 
 -- an indented word begins a statement
-line_of_statement : (n : ℕ) (text : List ℕ) → begins_word text ≡ true → line_of (replicate n 32 ++ text) ≡ statement_line (tokens text)
+line_of_statement : (n : ℕ) (text : List ℕ) → begins_word text ≡ true → free_line_of (replicate n 32 ++ text) ≡ statement_line (tokens text)
 line_of_statement n text e =
     let l : List ℕ = replicate n 32 ++ text in
     ap (λ b. if b then comment_line (record { marked = true; text = drop 1 l }) else (if is_blank l then comment_line (record { marked = false; text = l }) else statement_line (tokens l))) (no_comment n text e)
@@ -54,14 +55,14 @@ blanks_unbroken (suc n) = blanks_unbroken n
 
 -- a written line is the line of a statement
 pub line_step : (level : ℕ) (text more : List ℕ) → has_no_break text ≡ true → begins_word text ≡ true → lines_of (line level text ++ more) ≡ statement_line (tokens text) ∷ lines_of more
-line_step level text more unbroken begins = go (min (2 * level) 60)
+line_step level text more unbroken begins = go (min (2 * level) MOST_INDENTED)
   where
     go : (n : ℕ) → lines_of ((replicate n 32 ++ text ++ 10 ∷ []) ++ more) ≡ statement_line (tokens text) ∷ lines_of more
     go n =
         let front : List ℕ = replicate n 32 in
         let whole : (front ++ text ++ 10 ∷ []) ++ more ≡ (front ++ text) ++ 10 ∷ more = simp append_assoc in
         ap lines_of whole
-        ∙ ap (map line_of) (cut_line (front ++ text) more (all_append (λ c. not (c == 10)) front text (blanks_unbroken n) unbroken))
+        ∙ ap (map free_line_of) (cut_line (front ++ text) more (all_append (λ c. not (c == 10)) front text (blanks_unbroken n) unbroken))
         ∙ ap (λ (l : FreeLine). l ∷ lines_of more) (line_of_statement n text begins)
 
 -- ---- comments
@@ -80,11 +81,11 @@ comment_step : (marked : Bool) (text more : List ℕ) → is_writable_remark (re
     → lines_of (remark_text (record { marked = marked; text = text }) ++ more) ≡ comment_line (record { marked = marked; text = text }) ∷ lines_of more
 comment_step true text more e =
     let parts = and_parts (has_no_break text) true e in
-    ap lines_of (append_assoc (33 ∷ text) (10 ∷ []) more) ∙ ap (map line_of) (cut_line (33 ∷ text) more parts.0)
+    ap lines_of (append_assoc (33 ∷ text) (10 ∷ []) more) ∙ ap (map free_line_of) (cut_line (33 ∷ text) more parts.0)
 comment_step false text more e =
     let parts = and_parts (has_no_break text) (is_blank text) e in
     ap lines_of (append_assoc text (10 ∷ []) more)
-    ∙ ap (map line_of) (cut_line text more parts.0)
+    ∙ ap (map free_line_of) (cut_line text more parts.0)
     ∙ ap (λ b. (if b then comment_line (record { marked = true; text = drop 1 text }) else (if is_blank text then comment_line (record { marked = false; text = text }) else statement_line (tokens text))) ∷ lines_of more) (blank_unmarked text parts.1)
     ∙ ap (λ b. (if b then comment_line (record { marked = false; text = text }) else statement_line (tokens text)) ∷ lines_of more) parts.1
 

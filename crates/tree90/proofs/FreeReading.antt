@@ -3,7 +3,7 @@ use Rattle.std.proofs.Common.{◌≡◌, ℕ, List, [], ◌∷◌, ◌++◌, map
 use Rattle.text_base.specs.Lines.{cut}
 use Rattle.text_base.specs.Remarks.{Remark}
 use Rattle.tree90.specs.Tree.{Code, done, item, Declared, FreeUnit, FreeProgram}
-use Rattle.tree90.specs.FreeText.{FreeStatement, header, implicit_none, save, declaration, executable, end, SpellsFree, FreeLine, statement_line, line_of, comment_lines, SpellsNext, SpellsParts, SpellsCode, SpellsUnit, SpellsUnits, SpellsText}
+use Rattle.tree90.specs.FreeText.{FreeStatement, header, implicit_none, save, declaration, executable, end, SpellsFree, FreeLine, statement_line, free_line_of, comment_lines, SpellsNext, SpellsParts, SpellsCode, SpellsUnit, SpellsUnits, SpellsText}
 use Rattle.tree90.proofs.TokenReading.{free_unique}
 
 -- ---- lines
@@ -181,5 +181,5 @@ units_unique ls ms (u ∷ us) (v ∷ vs) t w e a b =
 -- a text is one program at most
 pub program_unique : (text : List ℕ) (p q : FreeProgram) → SpellsText text p → SpellsText text q → p ≡ q
 program_unique text p q a b =
-    let same = units_unique (map line_of (cut text)) (map line_of (cut text)) p.units q.units p.tail q.tail refl a.spelled b.spelled in
+    let same = units_unique (map free_line_of (cut text)) (map free_line_of (cut text)) p.units q.units p.tail q.tail refl a.spelled b.spelled in
     λ i. record { units = same.units i; tail = same.tail i }

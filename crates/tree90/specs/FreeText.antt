@@ -3,8 +3,8 @@
 use Rattle.std.specs.Prelude.{◌≡◌, ℕ, Bool, true, false, ◌&&◌, ◌||◌, ◌==◌, nat_le, IsTrue, List, [], ◌∷◌, ◌++◌, length, drop, map, codes, if◌then◌else◌}
 use Rattle.std.specs.List.{list_all}
 use Rattle.text_base.specs.Lines.{cut, is_blank}
-use Rattle.text_base.specs.Chars.{is_upper, is_digit, is_name, to_upper}
-use Rattle.tree90.specs.Constants.{SpellsOperand, IsSign, IsOperator}
+use Rattle.text_base.specs.Chars.{to_upper}
+use Rattle.tree90.specs.Constants.{is_letter, is_figure, is_free_form_name, SpellsOperand, IsSign, IsOperator}
 use Rattle.text_base.specs.Trees.{UnaryOp, BinaryOp, Expr, name, unary, binary, assign, stop}
 use Rattle.text_base.specs.Remarks.{Remark}
 use Rattle.text_base.specs.declared.limits.TheConstants.{LONGEST_WRITTEN}
@@ -14,7 +14,7 @@ use Rattle.tree90.specs.Tree.{Stmt, simple, Code, done, item, Declared, integer_
 
 -- letters of either case, digits and underscores
 abbrev pub is_word_byte : ℕ → Bool
-is_word_byte c = is_upper (to_upper c) || is_digit c || c == 95
+is_word_byte c = is_letter (to_upper c) || is_figure c || c == 95
 
 -- a character belongs to one token with the next: both are of a word, or both are colons
 abbrev pub joins : ℕ → List ℕ → Bool
@@ -49,15 +49,15 @@ pub data FreeStatement : Type 0 where
   end : List ℕ → FreeStatement
 
 pub data SpellsFree (ts : List (List ℕ)) (s : FreeStatement) : Type 0 where
-  free_header : {x : List ℕ} → ts ≡ codes "PROGRAM" ∷ x ∷ [] → IsTrue (is_name x) → s ≡ header x → SpellsFree ts s
+  free_header : {x : List ℕ} → ts ≡ codes "PROGRAM" ∷ x ∷ [] → IsTrue (is_free_form_name x) → s ≡ header x → SpellsFree ts s
   free_implicit : ts ≡ codes "IMPLICIT" ∷ codes "NONE" ∷ [] → s ≡ implicit_none → SpellsFree ts s
   free_save : ts ≡ codes "SAVE" ∷ [] → s ≡ save → SpellsFree ts s
-  free_integer : {x : List ℕ} → ts ≡ codes "INTEGER" ∷ codes "::" ∷ x ∷ [] → IsTrue (is_name x) → s ≡ declaration (integer_object x) → SpellsFree ts s
-  free_assign : {x : List ℕ} {us : List (List ℕ)} {e : Expr} → ts ≡ x ∷ codes "=" ∷ us → IsTrue (is_name x) → SpellsSum us e → s ≡ executable (simple (assign (name x) e)) → SpellsFree ts s
+  free_integer : {x : List ℕ} → ts ≡ codes "INTEGER" ∷ codes "::" ∷ x ∷ [] → IsTrue (is_free_form_name x) → s ≡ declaration (integer_object x) → SpellsFree ts s
+  free_assign : {x : List ℕ} {us : List (List ℕ)} {e : Expr} → ts ≡ x ∷ codes "=" ∷ us → IsTrue (is_free_form_name x) → SpellsSum us e → s ≡ executable (simple (assign (name x) e)) → SpellsFree ts s
   free_stop : ts ≡ codes "STOP" ∷ [] → s ≡ executable (simple stop) → SpellsFree ts s
   -- the two words of END PROGRAM may stand together (ISO/IEC 1539:1991 section 3.3.1)
-  free_end : {x : List ℕ} → ts ≡ codes "END" ∷ codes "PROGRAM" ∷ x ∷ [] → IsTrue (is_name x) → s ≡ end x → SpellsFree ts s
-  free_end_together : {x : List ℕ} → ts ≡ codes "ENDPROGRAM" ∷ x ∷ [] → IsTrue (is_name x) → s ≡ end x → SpellsFree ts s
+  free_end : {x : List ℕ} → ts ≡ codes "END" ∷ codes "PROGRAM" ∷ x ∷ [] → IsTrue (is_free_form_name x) → s ≡ end x → SpellsFree ts s
+  free_end_together : {x : List ℕ} → ts ≡ codes "ENDPROGRAM" ∷ x ∷ [] → IsTrue (is_free_form_name x) → s ≡ end x → SpellsFree ts s
 
 -- ---- lines
 
@@ -71,8 +71,8 @@ starts_comment [] = false
 starts_comment (c ∷ l) = c == 33
 
 -- a comment has `!` in column 1, or blanks alone or nothing
-abbrev pub line_of : List ℕ → FreeLine
-line_of l =
+abbrev pub free_line_of : List ℕ → FreeLine
+free_line_of l =
     if starts_comment l then comment_line (record { marked = true; text = drop 1 l })
     else (if is_blank l then comment_line (record { marked = false; text = l }) else statement_line (tokens l))
 
@@ -112,4 +112,4 @@ SpellsUnits ls (u ∷ us) tail = (rest : List FreeLine) × SpellsUnit ls u rest 
 -- the text is that of the program, and no line is too long
 pub record SpellsText (text : List ℕ) (p : FreeProgram) : Type 0 where
   pub short : IsTrue (list_all (λ l. nat_le (length l) LONGEST_WRITTEN) (cut text))
-  pub spelled : SpellsUnits (map line_of (cut text)) p.units p.tail
+  pub spelled : SpellsUnits (map free_line_of (cut text)) p.units p.tail

@@ -1,5 +1,5 @@
 -- The Fortran 90 meaning: a recursion over nested lists, over objects without tags.
-use Rattle.std.specs.Prelude.{ℕ, ℤ, pos, Bool, ◌&&◌, ◌-◌, List, [], ◌∷◌, map, flat_map, slice_get, Option, Some, None, unwrap_or, if◌then◌else◌}
+use Rattle.std.specs.Prelude.{◌≡◌, ℕ, ℤ, pos, Bool, ◌&&◌, ◌-◌, List, [], ◌∷◌, map, flat_map, slice_get, Option, Some, None, unwrap_or, if◌then◌else◌}
 use Rattle.std.specs.Option.{option_and_then}
 use Rattle.std.specs.Str.{bytes_eq}
 use Rattle.text_base.specs.Values.{Value, integer, Undefined}
@@ -96,12 +96,24 @@ unit_end n w normal = tick n w (λ n. gives n w tt)
 abbrev pub no_function : Call Objects
 no_function f n w = over (fault nowhere Undefined)
 
--- without DATA an integer object holds 0
-abbrev pub object_of : List ℕ → Declared → Object
-object_of home (integer_object x) = record { home = home; name = x; cells = integers (pos 0 ∷ []) }
+-- what all units declare, each declaration with the name of its unit
+abbrev pub declared_in : FreeProgram → List (List ℕ × Declared)
+declared_in p = flat_map (λ (unit : FreeUnit). map (λ d. (unit.name, d)) unit.declared) p.units
 
-abbrev pub start90 : FreeProgram → Objects
-start90 p = flat_map (λ (unit : FreeUnit). map (object_of unit.name) unit.declared) p.units
+-- the object is the one that a unit declares; what it holds is open
+abbrev pub IsDeclaredAs : List ℕ × Declared → Object → Type 0
+IsDeclaredAs (home, integer_object x) o = (v : ℤ) × (o ≡ record { home = home; name = x; cells = integers (v ∷ []) })
+
+-- the objects are those of the declarations, one after another
+abbrev pub AreDeclaredAs : List (List ℕ × Declared) → Objects → Type 0
+AreDeclaredAs [] [] = Unit {0}
+AreDeclaredAs [] (o ∷ os) = ⊥
+AreDeclaredAs (d ∷ ds) [] = ⊥
+AreDeclaredAs (d ∷ ds) (o ∷ os) = IsDeclaredAs d o × AreDeclaredAs ds os
+
+-- A run begins with the objects that the program declares. Without DATA nothing is known of what they hold.
+abbrev pub IsStart : FreeProgram → Objects → Type 0
+IsStart p start = AreDeclaredAs (declared_in p) start
 
 -- the END of a main program is a STOP without code (ISO/IEC 1539:1991 section 11.1)
 abbrev pub stop_at_end : ℕ → Objects → Unit {0} → Final Objects
@@ -111,6 +123,6 @@ abbrev pub run_main : Objects → Option FreeUnit → ℕ → Final Objects
 run_main w None m = ended w None
 run_main w (Some unit) m = close (bind (body (untagged unit.name) no_function unit.code m w) unit_end) stop_at_end
 
--- The program after m statements. The main program is the first unit.
-abbrev pub run90 : FreeProgram → ℕ → Final Objects
-run90 p m = run_main (start90 p) (slice_get p.units 0) m
+-- The program after m statements, from some objects on. The main program is the first unit.
+abbrev pub run90 : Objects → FreeProgram → ℕ → Final Objects
+run90 start p m = run_main start (slice_get p.units 0) m

@@ -24,19 +24,19 @@ abbrev pub stmt_of : Stmt90 → Stmt
 stmt_of (Simple s) = simple (action_of s)
 
 -- a list, and comments that no statement of it follows
-abbrev pub Listed : Type 0
-Listed = Code × List Remark
+abbrev pub CodeAndTail : Type 0
+CodeAndTail = Code × List Remark
 
-abbrev pub with_item : List Remark → Stmt → Listed → Listed
+abbrev pub with_item : List Remark → Stmt → CodeAndTail → CodeAndTail
 with_item remarks s rest = (item remarks s rest.0, rest.1)
 
 -- The statements of an item, with the comments before them, before the items that follow. Where it has no statement
 -- the comments go on to those.
-abbrev pub body_of : List Remark → List Stmt90 → (List Remark → Listed) → Listed
+abbrev pub body_of : List Remark → List Stmt90 → (List Remark → CodeAndTail) → CodeAndTail
 body_of remarks [] rest = rest remarks
 body_of remarks (s ∷ ss) rest = with_item remarks (stmt_of s) (body_of [] ss rest)
 
-abbrev pub listed_of : List Remark → List Item90 → Listed
+abbrev pub listed_of : List Remark → List Item90 → CodeAndTail
 listed_of remarks [] = (done, remarks)
 listed_of remarks (i ∷ is) = body_of (remarks ++ i.comments) i.body (λ left. listed_of left is)
 

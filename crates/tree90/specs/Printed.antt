@@ -4,11 +4,12 @@ use Rattle.std.specs.Prelude.{ℕ, ◌*◌, Bool, true, false, ◌==◌, List, [
 use Rattle.std.specs.Fmt.{signed_decimal}
 use Rattle.text_base.specs.Trees.{UnaryOp, plus, minus, negation, BinaryOp, power, times, over, add, subtract, concat, less, less_equal, equal, not_equal, greater, greater_equal, conjunction, disjunction, equivalence, nonequivalence, Expr, int, bool, text, name, call, substring, unary, binary, paren, Exprs, none, more, Bound, absent, at, Action, assign, stop}
 use Rattle.text_base.specs.Remarks.{remarks_text}
+use Rattle.text_base.specs.declared.limits.TheConstants.{MOST_INDENTED}
 use Rattle.tree90.specs.Tree.{Stmt, simple, Code, done, item, Declared, integer_object, FreeUnit, FreeProgram}
 
--- a line has two blanks for each level, at most 60, and ends with LF
+-- a line has two blanks for each level, up to a limit, and ends with LF
 abbrev pub line : ℕ → List ℕ → List ℕ
-line level words = replicate (min (2 * level) 60) 32 ++ words ++ 10 ∷ []
+line level words = replicate (min (2 * level) MOST_INDENTED) 32 ++ words ++ 10 ∷ []
 
 -- signs, .NOT. and operators (ISO/IEC 1539:1991 section 7.1.1)
 abbrev pub sign_text : UnaryOp → List ℕ

@@ -3,18 +3,18 @@ use Rattle.std.specs.Prelude.{◌≡◌, ℕ, ◌≤◌, Bool, true, false, not,
 use Rattle.std.specs.List.{list_all, list_any}
 use Rattle.std.specs.Str.{bytes_eq}
 use Rattle.text_base.specs.Lines.{cut}
-use Rattle.text_base.specs.Chars.{is_name}
 use Rattle.text_base.specs.Trees.{UnaryOp, plus, minus, negation, BinaryOp, add, subtract, Expr, int, name, unary, binary, Action, assign, stop}
 use Rattle.text_base.specs.Names.{action_names}
 use Rattle.text_base.specs.Remarks.{are_writable_remarks}
 use Rattle.text_base.specs.declared.limits.TheConstants.{GREATEST_INTEGER, LONGEST_WRITTEN}
 use Rattle.tree90.specs.Tree.{Stmt, simple, Code, done, item, Declared, integer_object, FreeUnit, FreeProgram}
+use Rattle.tree90.specs.Constants.{is_free_form_name}
 use Rattle.tree90.specs.Printed.{printed}
 
 -- an operand that stands without parentheses: a constant that isn't negative, or a name
 pub data IsOperand : Expr → Type 0 where
   operand_int : {v : ℕ} → v ≤ GREATEST_INTEGER → IsOperand (int (pos v))
-  operand_name : {x : List ℕ} → IsTrue (is_name x) → IsOperand (name x)
+  operand_name : {x : List ℕ} → IsTrue (is_free_form_name x) → IsOperand (name x)
 
 -- a sign, and an operator of sums
 abbrev pub is_sign : UnaryOp → Bool
@@ -35,7 +35,7 @@ pub data IsSum : Expr → Type 0 where
   sum_of : {op : BinaryOp} {a b : Expr} → is_additive op ≡ true → IsSum a → IsOperand b → IsSum (binary op a b)
 
 pub data IsWritableAction : Action → Type 0 where
-  writable_assign : {x : List ℕ} {e : Expr} → IsTrue (is_name x) → IsSum e → IsWritableAction (assign (name x) e)
+  writable_assign : {x : List ℕ} {e : Expr} → IsTrue (is_free_form_name x) → IsSum e → IsWritableAction (assign (name x) e)
   writable_stop : IsWritableAction stop
 
 abbrev pub IsWritableCode : Code → Type 0
@@ -47,9 +47,9 @@ declared_name (integer_object x) = x
 
 pub record IsWritableUnit (u : FreeUnit) : Type 0 where
   pub head : IsTrue (are_writable_remarks u.head)
-  pub named : IsTrue (is_name u.name)
+  pub named : IsTrue (is_free_form_name u.name)
   pub inner : IsTrue (are_writable_remarks u.inner)
-  pub declared : IsTrue (list_all (λ d. is_name (declared_name d)) u.declared)
+  pub declared : IsTrue (list_all (λ d. is_free_form_name (declared_name d)) u.declared)
   pub code : IsWritableCode u.code
   pub tail : IsTrue (are_writable_remarks u.tail)
 

@@ -4,7 +4,7 @@ use Rattle.text_base.specs.declared.refusal.Cause.TheVariants.{NotAStatement}
 use Rattle.expr_tree.specs.Plain.{expr_of}
 use Rattle.scan77.specs.Token.{tokens_of}
 use Rattle.expr77.specs.Outcome.{expression_of, outcome_from}
-use Rattle.expr77.specs.Views.{part_of}
+use Rattle.expr77.specs.Views.{plain_part}
 use Rattle.expr77.proofs.parsing.outcome.Goals as goal
 
 pub returns-in_default : goal.returns-in_default
@@ -14,5 +14,5 @@ returns-in_default c =
 
 pub returns-in_ok-part_refused-in-Some-lowest : goal.returns-in_ok-part_refused-in-Some-lowest
 returns-in_ok-part_refused-in-Some-lowest c =
-    let some : expression_of 0 None (tokens_of c.args.tokens.now) ≡ Some (expr_of c.in-Some.tree, Some (part_of c.in-Some-lowest.part)) = search rules in
-    (part_of c.in-Some-lowest.part, c.in_ok-part_refused-in-Some-lowest.ensures, ap (outcome_from (tokens_of c.args.tokens.now)) some)
+    let some : expression_of 0 None (tokens_of c.args.tokens.now) ≡ Some (expr_of c.in-Some.tree, Some (plain_part c.in-Some-lowest.part)) = search rules in
+    (plain_part c.in-Some-lowest.part, c.in_ok-part_refused-in-Some-lowest.ensures, ap (outcome_from (tokens_of c.args.tokens.now)) some)

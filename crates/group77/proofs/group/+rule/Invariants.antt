@@ -1,7 +1,7 @@
 use Rattle.std.proofs.Common.{ℕ, ◌≡◌, ◌+◌, ◌-◌, max}
 use Rattle.expr_tree.specs.Plain.{expr_of}
 use Rattle.group77.specs.Grouping.{read_more, read_chain}
-use Rattle.group77.specs.Groups.{left_of, reader_of, test_of}
+use Rattle.group77.specs.Groups.{symbols_left, reader_of, test_of}
 use Rattle.group77.specs.declared.group.Rule.{Rule}
 use Rattle.group77.specs.declared.group.Rule.TheVariants as rule
 use Rattle.group77.proofs.group.+rule.Given as goal
@@ -37,5 +37,5 @@ decreases-negation l = 11
 -- the reading that is left from here is the reading of all
 abbrev pub invariant-chain-loop : goal.invariant-chain-loop
 invariant-chain-loop l =
-    read_more (test_of l.sort) (reader_of l.next) (l.end - l.counter) (expr_of l.grouped) (left_of l.feed)
-    ≡ read_chain (test_of l.sort) (reader_of l.fn.first) (reader_of l.next) (left_of l.fn.feed)
+    read_more (test_of l.sort) (reader_of l.next) (l.end - l.counter) (expr_of l.grouped) (symbols_left l.feed)
+    ≡ read_chain (test_of l.sort) (reader_of l.fn.first) (reader_of l.next) (symbols_left l.fn.feed)

@@ -19,7 +19,6 @@ returns c =
     let d : CardLaws = record {
       pieces_found = c.one_list_of_pieces.ensures.found;
       pieces_only = c.one_list_of_pieces.ensures.only;
-      short = c.cards_are_marked.ensures.short;
     } in
     record {
       statement_found = is_spelled l;

@@ -1,28 +1,23 @@
-use Rattle.std.proofs.Common.{ap, map, ◌∙◌, sym}
-use Rattle.std.specs.Option.{option_map}
-use Rattle.std.proofs.lemmas.Bool.{false≢true}
-use Rattle.parse77.specs.Reading.{read_code}
-use Rattle.parse77.specs.Statement.{card_read}
-use Rattle.parse77.proofs.ItemLists.{after_items, item_more, last_read, early_end, other_read}
+use Rattle.std.proofs.Common.{sym, subst}
+use Rattle.parse77.proofs.ItemLists.{IsReadBehind, end_read, no_end, item_read, no_item}
 use Rattle.parse77.proofs.unit.code.Goals as goal
+
+pub returns-in_default-step_of : goal.returns-in_default-step_of
+returns-in_default-step_of c =
+    no_end c.args.statements c.pop.new.self c.in-Some.last c.step_of.result c.step_of.ensures c.in-Some.ensures c.in_default-step_of.not-Last
+
+pub loop-read-init : goal.loop-read-init
+loop-read-init c =
+    subst (λ items. IsReadBehind items c.in-Last.end c.pop.new.self c.args.statements) (sym c.in_ok-items.ensures.items)
+    (end_read c.args.statements c.pop.new.self c.in-Some.last c.step_of.result c.step_of.ensures c.in-Last.end c.in-Some.ensures c.in-Last.is)
+
+pub returns-in_default-step_of-2 : goal.returns-in_default-step_of-2
+returns-in_default-step_of-2 c =
+    no_item c.args.statements c.pop-in-loop-read.new.self c.in-Some-pop.read c.step_of-in-Some-pop.result c.step_of-in-Some-pop.ensures
+    c.loop-read.items.items c.in-Last.end c.loop-read.statements c.in-Some-pop.ensures c.loop-read.invariant c.in_default-step_of-2.not-Item
 
 pub loop-read-preserved : goal.loop-read-preserved
 loop-read-preserved c =
-    ap (λ items. option_map (after_items items) (read_code (map card_read c.next.new.self))) c.in_ok-push-in-Item.ensures.ok
-    ∙ item_more c.loop-read.items c.args.queue c.loop-read.queue c.next.new.self c.in-Some.read c.step_of.result c.in-Some.ensures c.step_of.ensures c.loop-read.invariant
-    c.in-Item.item c.in-Item.is
-
-pub returns-then-is_empty : goal.returns-then-is_empty
-returns-then-is_empty c =
-    last_read c.loop-read.items c.args.queue c.loop-read.queue c.next.new.self c.in-Some.read c.step_of.result c.in-Some.ensures c.step_of.ensures c.loop-read.invariant
-    c.in-Last.end c.in-Last.is (c.is_empty.ensures.0 c.if-is_empty.true)
-
-pub returns-in-Last : goal.returns-in-Last
-returns-in-Last c =
-    early_end c.loop-read.items c.args.queue c.loop-read.queue c.next.new.self c.in-Some.read c.step_of.result c.in-Some.ensures c.step_of.ensures c.loop-read.invariant
-    c.in-Last.end c.in-Last.is (λ none. false≢true (sym c.if-is_empty.false ∙ c.is_empty.ensures.1 none))
-
-pub returns-in-Other : goal.returns-in-Other
-returns-in-Other c =
-    other_read c.loop-read.items c.args.queue c.loop-read.queue c.next.new.self c.in-Some.read c.step_of.result c.in-Some.ensures c.step_of.ensures c.loop-read.invariant
-    c.in-Other.is
+    subst (λ items. IsReadBehind items c.in-Last.end c.pop-in-loop-read.new.self c.args.statements) (sym c.in_ok-push.ensures.items)
+    (item_read c.args.statements c.pop-in-loop-read.new.self c.in-Some-pop.read c.step_of-in-Some-pop.result c.step_of-in-Some-pop.ensures
+    c.loop-read.items.items c.in-Last.end c.loop-read.statements c.in-Some-pop.ensures c.loop-read.invariant c.in-Item.item c.in-Item.is)

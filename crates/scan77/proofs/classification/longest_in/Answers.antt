@@ -2,7 +2,7 @@ use Rattle.std.proofs.Common.{◌≡◌, ◌+◌, ◌∙◌, ◌∷◌, ◌<◌,
 use Rattle.std.proofs.Math.Seq.{drop-cons}
 use Rattle.std.specs.Option.{option_map}
 use Rattle.scan77.specs.KindReading.{longer, longest_of, word_here}
-use Rattle.scan77.specs.Outline.{left_of}
+use Rattle.scan77.specs.Outline.{characters_left}
 use Rattle.scan77.specs.Word.{word_text}
 use Rattle.scan77.specs.declared.word.Word.{Word}
 use Rattle.scan77.specs.declared.word.Word.TheVariants.{Program}
@@ -12,7 +12,7 @@ use Rattle.scan77.proofs.classification.longest_in.Goals as goal
 pub loop-word-preserved : goal.loop-word-preserved
 loop-word-preserved c =
     let words = c.args.words.now in
-    let text = left_of c.args.at in
+    let text = characters_left c.args.at in
     let i = c.loop-word.word-index in
     let before = option_map word_text c.loop-word.longest in
     let here = word_here (word_text (get_or words i Program)) text in

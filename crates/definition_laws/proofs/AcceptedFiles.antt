@@ -1,0 +1,212 @@
+-- Nothing is refused of a file where it is the source of a program that is converted.
+use Rattle.std.proofs.Common.{◌≡◌, ◌↔◌, ◌∙◌, sym, ap, subst, refl, ℕ, Bool, true, false, not, cond, ◌&&◌, List, [], ◌∷◌, length, map, filter, Option, Some, None, arith}
+use Rattle.std.specs.Prelude.{nat_lt, if◌then◌else◌}
+use Rattle.std.specs.List.{list_all}
+use Rattle.std.specs.Option.{option_and_then, option_map}
+use Rattle.std.proofs.lemmas.Bool.{and_from, and_parts, leb-true, le-leb}
+use Rattle.std.proofs.lemmas.List.{append-nil}
+use Rattle.std.proofs.lemmas.List.Elements.{All-cons, All-nil}
+use Rattle.std.proofs.lemmas.List.Folds.{list_all-append}
+use Rattle.text_base.specs.Cards.{Card, cards}
+use Rattle.text_base.specs.LineRefusals.{too_large, passes_sum, line_refusals, card_refusals, files_refusals}
+use Rattle.text_base.specs.Lines.{lines}
+use Rattle.text_base.specs.Names.{action_names}
+use Rattle.text_base.specs.Trees.{Expr, int, name, unary, binary, Action, assign, stop}
+use Rattle.text_base.specs.declared.refusal.Place.{Place}
+use Rattle.text_base.specs.declared.refusal.Refusal.{Refusal}
+use Rattle.tree77.specs.Source.{SpellsCard, IsSource}
+use Rattle.tree77.specs.Spelling.{Statement, program, action, continue, end}
+use Rattle.tree77.specs.Tree as tree
+use Rattle.tree77.specs.Tree.{Code, done, item, SourceUnit, SourceProgram}
+use Rattle.tree77.specs.Typing.{code_names, is_variable, is_typed}
+use Rattle.parse77.specs.Reading.{read_card, read_of, file_statements, Ended, ended_at, join_code, read_code, unit_with, read_unit, typed_unit, unless_refused, read_source}
+use Rattle.parse77.specs.Unit.{header_name}
+use Rattle.project_set.specs.Refusals.{program_name, is_built_operand, is_built, is_built_action, is_short, is_built_statement, is_built_as, is_built_card, not_built_at, statement_refusals, unit_refusals, first_of, refusals}
+use Rattle.definition_laws.specs.AcceptedFiles.{IsTerm, constant, variable, IsSumOfTerms, one_term, signed_term, more_terms, IsConverted, converted_assign, converted_stop, AreConverted, IsBuiltProgram, CardsAreSpelled, FilesAreSources}
+use Rattle.definition_laws.proofs.AcceptedFaults.{after, beside, along}
+
+-- ---- cards
+
+pub cards_are_spelled : ((card : Card) (s : Statement) → read_card card ≡ Some s → SpellsCard card s)
+    → ((card : Card) (s : Statement) → SpellsCard card s → read_card card ≡ Some s) → CardsAreSpelled
+cards_are_spelled found only unit card =
+    (λ e. go (read_card card) refl e, λ h. subst (λ o. is_built_as unit o ≡ true) (sym (only card h.0 h.1)) h.2)
+  where
+    go : (o : Option Statement) → read_card card ≡ o → is_built_as unit o ≡ true → (s : Statement) × SpellsCard card s × (is_built_as unit (Some s) ≡ true)
+    go None is e = absurd cc
+    go (Some s) is e = (s, found card s is, e)
+
+-- ---- statements
+
+both : (p q : Bool) → ((p && q) ≡ true) ↔ ((p ≡ true) × (q ≡ true))
+both p q = (and_parts p q, λ h. and_from p q h.0 h.1)
+
+term : (e : Expr) → is_built_operand e ≡ true → IsTerm e
+term (int v) built = constant
+term (name x) built = variable
+term e built = absurd cc
+
+is_term : (e : Expr) → IsTerm e → is_built_operand e ≡ true
+is_term e constant = refl
+is_term e variable = refl
+
+sum_of : (e : Expr) → is_built e ≡ true → IsSumOfTerms e
+sum_of (unary op a) built = let b = and_parts _ _ built in signed_term b.0 (term a b.1)
+sum_of (binary op a b) built = let p = and_parts _ _ built in let q = and_parts _ _ p.1 in more_terms p.0 (sum_of a q.0) (term b q.1)
+sum_of e built = one_term (term e built)
+
+is_sum : (e : Expr) → IsSumOfTerms e → is_built e ≡ true
+is_sum e (one_term constant) = refl
+is_sum e (one_term variable) = refl
+is_sum e (signed_term {a = a} sign t) = and_from _ _ sign (is_term a t)
+is_sum e (more_terms {a = a} {b = b} op s t) = and_from _ _ op (and_from _ _ (is_sum a s) (is_term b t))
+
+converted : (a : Action) → ((is_built_action a ≡ true) × (is_short a ≡ true)) ↔ IsConverted a
+converted a = (to a, from a)
+  where
+    to : (a : Action) → (is_built_action a ≡ true) × (is_short a ≡ true) → IsConverted a
+    to (assign (name x) e) h = converted_assign (sum_of e h.0) (leb-true _ _ h.1)
+    to (assign d e) h = absurd (let first = h.0 in cc)
+    to stop h = converted_stop
+
+    from : (a : Action) → IsConverted a → (is_built_action a ≡ true) × (is_short a ≡ true)
+    from a (converted_assign {e = e} s short) = (is_sum e s, le-leb _ _ short)
+    from a converted_stop = (refl, refl)
+
+-- ---- lists
+
+-- a statement, and those of a list, can be converted in the program of this name
+abbrev stmt_built : List ℕ → tree.Stmt → Bool
+stmt_built x (tree.simple a) = is_built_statement (Some x) (action a)
+stmt_built x tree.continue = true
+
+abbrev code_built : List ℕ → Code → Bool
+code_built x done = true
+code_built x (item label here s rest) = stmt_built x s && code_built x rest
+
+-- the names of a list are integer variables, and its statements are converted
+built_code : (x : List ℕ) (code : Code) → (code_built x code ≡ true) ↔ ((list_all (is_variable x) (code_names code) ≡ true) × AreConverted code)
+built_code x done = (λ e. (refl, tt), λ h. refl)
+built_code x (item label here tree.continue rest) = built_code x rest
+built_code x (item label here (tree.simple a) rest) =
+    let more = built_code x rest in
+    let names = both (list_all (is_variable x) (action_names a)) (list_all (is_variable x) (code_names rest)) in
+    rw (list_all-append (is_variable x) (action_names a) (code_names rest)) (
+      λ e. let p = and_parts _ _ e in let q = and_parts _ _ p.0 in let r = and_parts _ _ q.1 in let m = more.0 p.1 in (names.1 (r.0, m.0), ((converted a).0 (q.0, r.1), m.1)),
+      λ h. let n = names.0 h.0 in let k = (converted a).1 h.1.0 in and_from _ _ (and_from _ _ k.0 (and_from _ _ n.0 k.1)) (more.1 (n.1, h.1.1)),
+    )
+
+-- one statement more
+joined : (x : List ℕ) (here : Place) (s : tree.Stmt) (b : Bool) (o : Option Ended) (r : Ended) → option_map (λ (q : Ended). (item 0 here s q.0, q.1)) o ≡ Some r
+    → ((q : Ended) → o ≡ Some q → b ≡ code_built x q.0) → (stmt_built x s && b) ≡ code_built x r.0
+joined x here s b None r e more = absurd cc
+joined x here s b (Some q) r e more =
+    let same : (item 0 here s q.0, q.1) ≡ r = cc in ap (λ c. stmt_built x s && c) (more q refl) ∙ ap (λ (t : Ended). code_built x t.0) same
+
+last : (x : List ℕ) (here : Place) (cs : List Card) (r : Ended) → ended_at here (map read_of cs) ≡ Some r → list_all (is_built_card (Some x)) cs ≡ code_built x r.0
+last x here [] r e = let same : (done, here) ≡ r = cc in ap (λ (t : Ended). code_built x t.0) same
+last x here (card ∷ cs) r e = absurd cc
+
+-- a list that is read can be converted where its cards can
+list_reads : (x : List ℕ) (cs : List Card) (r : Ended) → read_code (map read_of cs) ≡ Some r → list_all (is_built_card (Some x)) cs ≡ code_built x r.0
+list_reads x [] r e = absurd cc
+list_reads x (card ∷ rest) r e = go (read_card card) e (list_reads x rest)
+  where
+    go : (o : Option Statement) → option_and_then (λ s. join_code card.place s (map read_of rest) (read_code (map read_of rest))) o ≡ Some r
+        → ((q : Ended) → read_code (map read_of rest) ≡ Some q → list_all (is_built_card (Some x)) rest ≡ code_built x q.0)
+        → (is_built_as (Some x) o && list_all (is_built_card (Some x)) rest) ≡ code_built x r.0
+    go None e more = absurd cc
+    go (Some (program y)) e more = absurd cc
+    go (Some (action a)) e more = joined x card.place (tree.simple a) _ (read_code (map read_of rest)) r e more
+    go (Some continue) e more = joined x card.place tree.continue _ (read_code (map read_of rest)) r e more
+    go (Some end) e more = last x card.place rest r e
+
+-- so can a unit
+headed : (x : List ℕ) (here : Place) (b : Bool) (o : Option Ended) (u : SourceUnit) → unit_with here (program x) o ≡ Some u → ((q : Ended) → o ≡ Some q → b ≡ code_built x q.0)
+    → b ≡ code_built u.name u.code
+headed x here b None u e more = absurd cc
+headed x here b (Some r) u e more =
+    let unit : SourceUnit = record { name = x; place = here; code = r.0; end = r.1 } in
+    let same : unit ≡ u = cc in more r refl ∙ ap (λ (v : SourceUnit). code_built v.name v.code) same
+
+unit_reads : (cs : List Card) (u : SourceUnit) → read_unit (map read_of cs) ≡ Some u → list_all (is_built_card (program_name (map read_of cs))) cs ≡ code_built u.name u.code
+unit_reads [] u e = absurd cc
+unit_reads (card ∷ rest) u e = go (read_card card) e
+  where
+    go : (o : Option Statement) → option_and_then (λ s. unit_with card.place s (read_code (map read_of rest))) o ≡ Some u
+        → (is_built_as (option_and_then header_name o) o && list_all (is_built_card (option_and_then header_name o)) rest) ≡ code_built u.name u.code
+    go (Some (program x)) e = headed x card.place _ (read_code (map read_of rest)) u e (list_reads x rest)
+    go o e = absurd cc
+
+-- ---- phases
+
+no_first : (a b : List Refusal) → (first_of a b ≡ []) ↔ ((a ≡ []) × (b ≡ []))
+no_first [] b = (λ e. (refl, e), λ h. h.1)
+no_first (first ∷ rest) b = (λ e. absurd cc, λ h. absurd cc)
+
+-- the sum of one file is passed only by a file that is too large by itself
+one_file : (bytes : List ℕ) → files_refusals 0 0 (bytes ∷ []) ≡ card_refusals 0 bytes
+one_file bytes = append-nil _ ∙ go (passes_sum 0 bytes) refl
+  where
+    go : (b : Bool) → passes_sum 0 bytes ≡ b → (if b then too_large 0 (length bytes) ∷ [] else card_refusals 0 bytes) ≡ card_refusals 0 bytes
+    go true is =
+        let large : nat_lt 16777216 (length bytes) ≡ true = grind (arith, is) in
+        sym (ap (λ b. if b then too_large 0 (length bytes) ∷ [] else line_refusals 0 1 None (lines bytes)) large)
+    go false is = refl
+
+no_statement : (p : Card → Bool) (cs : List Card) → (map not_built_at (filter (λ card. not (p card)) cs) ≡ []) ↔ (list_all p cs ≡ true)
+no_statement p [] = (λ e. refl, λ e. refl)
+no_statement p (card ∷ cs) = go (p card) (no_statement p cs)
+  where
+    go : (b : Bool) → (map not_built_at (filter (λ c. not (p c)) cs) ≡ []) ↔ (list_all p cs ≡ true)
+        → (map not_built_at (cond (not b) (card ∷ filter (λ c. not (p c)) cs) (filter (λ c. not (p c)) cs)) ≡ []) ↔ ((b && list_all p cs) ≡ true)
+    go true more = more
+    go false more = (λ e. absurd cc, λ e. absurd cc)
+
+no_unit : (o : Option SourceUnit) → (unit_refusals 0 o ≡ []) ↔ ((u : SourceUnit) × (o ≡ Some u))
+no_unit None = (λ e. absurd cc, λ h. absurd (let e = h.1 in cc))
+no_unit (Some u) = (λ e. (u, refl), λ h. refl)
+
+phases : (bytes : List ℕ) → (refusals bytes ≡ [])
+    ↔ ((card_refusals 0 bytes ≡ []) × ((list_all (is_built_card (program_name (file_statements 0 bytes))) (cards 0 bytes) ≡ true) × ((u : SourceUnit) × (read_unit (file_statements 0 bytes) ≡ Some u))))
+phases bytes =
+    after (no_first (files_refusals 0 0 (bytes ∷ [])) _) (beside (along (one_file bytes))
+    (after (no_first (statement_refusals (cards 0 bytes)) _) (beside (no_statement (is_built_card (program_name (file_statements 0 bytes))) (cards 0 bytes)) (no_unit _))))
+
+-- ---- programs
+
+abbrev program_of : SourceUnit → SourceProgram
+program_of u = record { units = u ∷ [] }
+
+source_read : (bytes : List ℕ) (u : SourceUnit) → card_refusals 0 bytes ≡ [] → read_unit (file_statements 0 bytes) ≡ Some u → is_typed u ≡ true → read_source 0 bytes ≡ Some (program_of u)
+source_read bytes u accepted is typed =
+    (λ i. unless_refused (accepted i) (option_map program_of (option_and_then typed_unit (is i)))) ∙ ap (λ b. option_map program_of (if b then Some u else None)) typed
+
+-- the unit of a program that is read
+abbrev Unit77 : List ℕ → SourceProgram → Type 0
+Unit77 bytes p = (u : SourceUnit) × (read_unit (file_statements 0 bytes) ≡ Some u) × (is_typed u ≡ true) × (p ≡ program_of u)
+
+source_unit : (bytes : List ℕ) (p : SourceProgram) → IsSource 0 bytes p → read_source 0 bytes ≡ Some p → Unit77 bytes p
+source_unit bytes p source e =
+    go (read_unit (file_statements 0 bytes)) refl (sym (ap (λ rs. unless_refused rs (option_map program_of (option_and_then typed_unit (read_unit (file_statements 0 bytes))))) source.accepted) ∙ e)
+  where
+    typed_as : (u : SourceUnit) (b : Bool) → read_unit (file_statements 0 bytes) ≡ Some u → is_typed u ≡ b → option_map program_of (if b then Some u else None) ≡ Some p → Unit77 bytes p
+    typed_as u true is typed e = (u, is, typed, cc)
+    typed_as u false is typed e = absurd cc
+
+    go : (o : Option SourceUnit) → read_unit (file_statements 0 bytes) ≡ o → option_map program_of (option_and_then typed_unit o) ≡ Some p → Unit77 bytes p
+    go None is e = absurd cc
+    go (Some u) is e = typed_as u (is_typed u) is refl e
+
+pub files_are_sources : ((file : ℕ) (bytes : List ℕ) (p : SourceProgram) → read_source file bytes ≡ Some p → IsSource file bytes p)
+    → ((file : ℕ) (bytes : List ℕ) (p : SourceProgram) → IsSource file bytes p → read_source file bytes ≡ Some p) → FilesAreSources
+files_are_sources found only bytes = (
+  λ e. let p = (phases bytes).0 e in
+      let u = p.1.1.0 in
+      let built = (built_code u.name u.code).0 (sym (unit_reads (cards 0 bytes) u p.1.1.1) ∙ p.1.0) in
+      (program_of u, found 0 bytes (program_of u) (source_read bytes u p.0 p.1.1.1 built.0), All-cons (λ unit. AreConverted unit.code) u [] built.1 (All-nil (λ unit. AreConverted unit.code))),
+  λ h. let v = source_unit bytes h.0 h.1 (only 0 bytes h.0 h.1) in
+      let u = v.0 in
+      let built = (built_code u.name u.code).1 (v.2, subst IsBuiltProgram v.3 h.2 0 u (omega arith)) in
+      (phases bytes).1 (h.1.accepted, (unit_reads (cards 0 bytes) u v.1 ∙ built, (u, v.1))),
+)

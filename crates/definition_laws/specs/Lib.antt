@@ -1,0 +1,9 @@
+pub mod Statements
+pub mod FileLines
+pub mod Storage
+pub mod CommentPlaces
+pub mod Running
+pub mod Faults
+pub mod Texts
+pub mod AcceptedFiles
+pub mod AcceptedLines

@@ -1,0 +1,13 @@
+// What files are accepted, by the programs that they are the sources of.
+ghost use Rattle.definition_laws.specs.AcceptedFiles.{CardsAreSpelled, FilesAreSources};
+
+use parse77::statements_are_spelled;
+
+/// Nothing is refused of a file exactly where it is the source of a program whose statements are all converted, and a card
+/// is converted exactly where it spells a statement that is.
+pub fn files_are_accepted()
+    ensures card { CardsAreSpelled }
+    ensures file { FilesAreSources }
+{
+    statements_are_spelled();
+}

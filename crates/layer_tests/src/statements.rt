@@ -1,0 +1,92 @@
+// The statements of a file, and the program that they are.
+use crate::table::rows_of;
+use crate::tables::statements::STATEMENTS;
+use card_reader::{Card, read_cards};
+use parse77::{ReadStatement, Statement, main_program, read_statements, shown};
+use std::alloc::{AllocError, Global};
+use std::test::Fail;
+use text_base::{Bytes, Place};
+use tree77::Unit77;
+
+// What a statement is, in a word.
+fn word(statement: &Option<Statement>) -> &'static str {
+    match statement {
+        Some(Statement::Program(_)) => "program",
+        Some(Statement::Assign(_, _)) => "assign",
+        Some(Statement::Continue) => "continue",
+        Some(Statement::Stop) => "stop",
+        Some(Statement::End) => "end",
+        None => "none",
+    }
+}
+
+fn add_place(alloc: Global, place: Place, out: &mut Bytes) -> Result<(), AllocError> {
+    let Place { file, line } = place;
+    out.extend(format!(in alloc; "{file}:{line} ")?.as_bytes())
+}
+
+// The place of a statement, what it is, its characters and a stroke.
+fn add_statement(
+    alloc: Global,
+    read: &ReadStatement,
+    card: &Card,
+    out: &mut Bytes,
+) -> Result<(), AllocError> {
+    add_place(alloc, read.place, out)?;
+    out.extend(word(&read.statement).as_bytes())?;
+    out.push(b' ')?;
+    out.extend(shown(alloc, card)?.as_slice())?;
+    out.push(b'|')
+}
+
+fn add_statements(
+    alloc: Global,
+    statements: &[ReadStatement],
+    cards: &[Card],
+    out: &mut Bytes,
+) -> Result<(), AllocError> {
+    for (read, card) in statements.iter().zip(cards) {
+        add_statement(alloc, read, card, out)?;
+    }
+    let count = statements.len();
+    out.extend(format!(in alloc; "{count}")?.as_bytes())
+}
+
+// What is said of the statements of a file, and how many there are.
+fn statements_told(alloc: Global, file: &[u8]) -> Result<Bytes, Fail> {
+    let mut said = Bytes::new(alloc);
+    let deck = read_cards(alloc, 7, file)?;
+    let statements = read_statements(alloc, &deck)?;
+    add_statements(alloc, statements.as_slice(), deck.statements(), &mut said)?;
+    Ok(said)
+}
+
+// The place of the END of a unit, its name and how many items it has.
+fn unit_told(alloc: Global, unit: &Unit77) -> Result<Bytes, AllocError> {
+    let mut said = Bytes::new(alloc);
+    add_place(alloc, unit.end, &mut said)?;
+    said.extend(unit.name.as_slice())?;
+    let count = unit.items.len();
+    said.extend(format!(in alloc; " {count}")?.as_bytes())?;
+    Ok(said)
+}
+
+// What is said of the program that a file is.
+fn program_told(alloc: Global, file: &[u8]) -> Result<Bytes, Fail> {
+    let deck = read_cards(alloc, 7, file)?;
+    let statements = read_statements(alloc, &deck)?;
+    match main_program(alloc, statements)? {
+        Some(unit) => Ok(unit_told(alloc, &unit)?),
+        None => Ok(Bytes::from_slice(alloc, b"none")?),
+    }
+}
+
+#[test]
+fn statements_and_programs_are_read(rt: HostRuntime) -> Result<(), Fail> {
+    let alloc = rt.alloc();
+    for row in rows_of(alloc, STATEMENTS, 2, 3)?.iter() {
+        row.check(&rt, 1, statements_told(alloc, row.field(0))?.as_slice());
+        row.check(&rt, 2, program_told(alloc, row.field(0))?.as_slice());
+    }
+    Ok(())
+}

@@ -1,0 +1,9 @@
+// The tables, in the notation that the README gives.
+pub mod answers;
+pub mod cards;
+pub mod expressions;
+pub mod files;
+pub mod kinds;
+pub mod printed;
+pub mod statements;
+pub mod tokens;

@@ -1,0 +1,384 @@
+// Whole files.
+
+/// The file; what is written of it: the text, the map and the report.
+pub const CONVERTED: &str = r"
+      PROGRAM T\n\
+      I = 1\n\
+      J = I + 2 - 5\n\
+      STOP\n\
+      END\n ~ \
+PROGRAM T\n\
+  IMPLICIT NONE\n\
+  SAVE\n\
+  INTEGER :: I\n\
+  INTEGER :: J\n\
+  I = 1\n\
+  J = I + 2 - 5\n\
+  STOP\n\
+END PROGRAM T\n ~ \
+T.I 0 1 I T:I 1\nT.J 0 1 I T:J 1\n ~ \
+UNITS 1\nWEBS 0\nKEPT 0\nARRAYS 0\nCUT 0\n
+
+      PROGRAM T\n\
+      I = -2147483647 - 1\n\
+      END\n ~ \
+PROGRAM T\n\
+  IMPLICIT NONE\n\
+  SAVE\n\
+  INTEGER :: I\n\
+  I = -2147483647 - 1\n\
+END PROGRAM T\n ~ \
+T.I 0 1 I T:I 1\n ~ \
+UNITS 1\nWEBS 0\nKEPT 0\nARRAYS 0\nCUT 0\n
+
+# the variable of the left side stands first in the text
+      PROGRAM T\n      J = I\n      END\n ~ \
+PROGRAM T\n\
+  IMPLICIT NONE\n\
+  SAVE\n\
+  INTEGER :: J\n\
+  INTEGER :: I\n\
+  J = I\n\
+END PROGRAM T\n ~ \
+T.J 0 1 I T:J 1\nT.I 0 1 I T:I 1\n ~ \
+UNITS 1\nWEBS 0\nKEPT 0\nARRAYS 0\nCUT 0\n
+
+# blanks inside names, constants and keywords
+      P R O G R A M T\n\
+      I J = + 0 0 1 2\n\
+      C O N T I N U E\n\
+      S T O P\n\
+      E N D\n ~ \
+PROGRAM T\n\
+  IMPLICIT NONE\n\
+  SAVE\n\
+  INTEGER :: IJ\n\
+  IJ = +12\n\
+  STOP\n\
+END PROGRAM T\n ~ \
+T.IJ 0 1 I T:IJ 1\n ~ \
+UNITS 1\nWEBS 0\nKEPT 0\nARRAYS 0\nCUT 0\n
+
+# lower and mixed case
+      program t\n\
+      Next=next-K\n\
+      stop\n\
+      Stop\n\
+      Continue\n\
+      end\n ~ \
+PROGRAM T\n\
+  IMPLICIT NONE\n\
+  SAVE\n\
+  INTEGER :: NEXT\n\
+  INTEGER :: K\n\
+  NEXT = NEXT - K\n\
+  STOP\n\
+  STOP\n\
+END PROGRAM T\n ~ \
+T.NEXT 0 1 I T:NEXT 1\nT.K 0 1 I T:K 1\n ~ \
+UNITS 1\nWEBS 0\nKEPT 0\nARRAYS 0\nCUT 0\n
+
+      PROGRAM T\n\
+      I = 7\n\
+      J = 007\n\
+      I = 12\n\
+      END\n ~ \
+PROGRAM T\n\
+  IMPLICIT NONE\n\
+  SAVE\n\
+  INTEGER :: I\n\
+  INTEGER :: J\n\
+  I = 7\n\
+  J = 7\n\
+  I = 12\n\
+END PROGRAM T\n ~ \
+T.I 0 1 I T:I 1\nT.J 0 1 I T:J 1\n ~ \
+UNITS 1\nWEBS 0\nKEPT 0\nARRAYS 0\nCUT 0\n
+
+# comments at each place: before the header, after it, before a statement, before a CONTINUE, before END, after END
+C1\n\
+\n\
+      PROGRAM T\n\
+*2\n\
+      I = 1\n\
+!3\n\
+      I = 2\n\
+c4\n\
+      CONTINUE\n\
+   \n\
+      STOP\n\
+C 5\n\
+      END\n\
+*6\n ~ \
+!1\n\
+\n\
+PROGRAM T\n\
+!2\n\
+  IMPLICIT NONE\n\
+  SAVE\n\
+  INTEGER :: I\n\
+  I = 1\n\
+!3\n\
+  I = 2\n\
+!4\n\
+   \n\
+  STOP\n\
+! 5\n\
+END PROGRAM T\n\
+!6\n ~ \
+T.I 0 1 I T:I 1\n ~ \
+UNITS 1\nWEBS 0\nKEPT 0\nARRAYS 0\nCUT 0\n
+
+# END is the first executable statement
+      PROGRAM T\nC\n      END\n\n ~ \
+PROGRAM T\n\
+!\n\
+  IMPLICIT NONE\n\
+  SAVE\n\
+END PROGRAM T\n\
+\n ~ \
+ ~ \
+UNITS 1\nWEBS 0\nKEPT 0\nARRAYS 0\nCUT 0\n
+
+      PROGRAM T\n      CONTINUE\n      END\n ~ \
+PROGRAM T\n\
+  IMPLICIT NONE\n\
+  SAVE\n\
+END PROGRAM T\n ~ \
+ ~ \
+UNITS 1\nWEBS 0\nKEPT 0\nARRAYS 0\nCUT 0\n
+
+# columns after 72
+C     FIRST\n\
+      PROGRAM T\n\
+      I = 1\61{ }OLD00010\n\
+*     NEXT\n\
+      J = I + 2 - 5\n\
+\n\
+      STOP\n\
+      END\n ~ \
+!     FIRST\n\
+PROGRAM T\n\
+  IMPLICIT NONE\n\
+  SAVE\n\
+  INTEGER :: I\n\
+  INTEGER :: J\n\
+  I = 1\n\
+!     NEXT\n\
+  J = I + 2 - 5\n\
+\n\
+  STOP\n\
+END PROGRAM T\n ~ \
+T.I 0 1 I T:I 1\nT.J 0 1 I T:J 1\n ~ \
+UNITS 1\nWEBS 0\nKEPT 0\nARRAYS 0\nCUT 1\n
+
+# continuation lines, with comments inside statements
+      PROGRAM T\n\
+C A\n\
+     1  EST\n\
+      I = 1\n\
+C B\n\
+\n\
+     1  + 2\61{ }OLD\n\
+C C\n\
+     2- 3\n\
+      J = 2\n\
+* D\n\
+     1 + I\n\
+      EN\n\
+! E\n\
+     1D\n\
+C F\n ~ \
+! A\n\
+PROGRAM TEST\n\
+! B\n\
+\n\
+! C\n\
+  IMPLICIT NONE\n\
+  SAVE\n\
+  INTEGER :: I\n\
+  INTEGER :: J\n\
+  I = 1 + 2 - 3\n\
+! D\n\
+  J = 2 + I\n\
+! E\n\
+END PROGRAM TEST\n\
+! F\n ~ \
+TEST.I 0 1 I TEST:I 1\nTEST.J 0 1 I TEST:J 1\n ~ \
+UNITS 1\nWEBS 0\nKEPT 0\nARRAYS 0\nCUT 1\n
+
+# a 0 in column 6, CR before LF and at the end, a line of blanks past column 72
+     0PROGRAM T\r\n\
+     0I = 1\r\n\
+\80{ }\r\n\
+      end\r ~ \
+PROGRAM T\n\
+  IMPLICIT NONE\n\
+  SAVE\n\
+  INTEGER :: I\n\
+  I = 1\n\
+\80{ }\n\
+END PROGRAM T\n ~ \
+T.I 0 1 I T:I 1\n ~ \
+UNITS 1\nWEBS 0\nKEPT 0\nARRAYS 0\nCUT 0\n
+
+# something after column 72 alone, and comments of 132 bytes
+\72{ }LATE\n\
+      PROGRAM T\n\
+C\131{x}\n\
+      END\64{ }\n ~ \
+!\71{ }LATE\n\
+PROGRAM T\n\
+!\131{x}\n\
+  IMPLICIT NONE\n\
+  SAVE\n\
+END PROGRAM T\n ~ \
+ ~ \
+UNITS 1\nWEBS 0\nKEPT 0\nARRAYS 0\nCUT 0\n
+
+# a written line of 132 characters
+      PROGRAM T\n\
+      I=\31{N}+\31{N}+\n\
+     1\31{N}+\24{M}\n\
+      END\n ~ \
+PROGRAM T\n\
+  IMPLICIT NONE\n\
+  SAVE\n\
+  INTEGER :: I\n\
+  INTEGER :: \31{N}\n\
+  INTEGER :: \24{M}\n\
+  I = \31{N} + \31{N} + \31{N} + \24{M}\n\
+END PROGRAM T\n ~ \
+T.I 0 1 I T:I 1\n\
+T.\31{N} 0 1 I T:\31{N} 1\n\
+T.\24{M} 0 1 I T:\24{M} 1\n ~ \
+UNITS 1\nWEBS 0\nKEPT 0\nARRAYS 0\nCUT 0\n
+";
+
+/// The file; what is refused of it.
+pub const REFUSED: &str = r"
+# no END
+      PROGRAM T\n      I = 1\n ~ t.f:0: 99 NotBuilt 0\n
+
+# END twice, and a statement after END
+      PROGRAM T\n      I = 1\n      END\n      END\n ~ t.f:0: 99 NotBuilt 0\n
+      PROGRAM T\n      END\n      I = 1\n ~ t.f:0: 99 NotBuilt 0\n
+
+# no PROGRAM statement, and two
+      I = 1\n      END\n ~ t.f:0: 99 NotBuilt 0\n
+      PROGRAM T\n      PROGRAM T\n      END\n ~ t.f:0: 99 NotBuilt 0\n
+
+# comments alone, and nothing
+C     FIRST\n\n*     NEXT\n ~ t.f:0: 99 NotBuilt 0\n
+ ~ t.f:0: 99 NotBuilt 0\n
+
+# a variable that isn't an integer, on either side
+      PROGRAM T\n      A = 1\n      END\n ~ t.f:2: 99 NotBuilt A=1\n
+      PROGRAM T\n      I = A\n      END\n ~ t.f:2: 99 NotBuilt I=A\n
+
+# a variable of the program's name, on either side
+      PROGRAM I\n      I = 1\n      END\n ~ t.f:2: 99 NotBuilt I=1\n
+      PROGRAM I\n      J = I\n      END\n ~ t.f:2: 99 NotBuilt J=I\n
+
+# a constant past the integers
+      PROGRAM T\n      I = 2147483648\n      END\n ~ t.f:2: 99 NotBuilt I=2147483648\n
+      PROGRAM T\n      I = J - 2147483648\n      END\n ~ t.f:2: 99 NotBuilt I=J-21474836\n
+
+# a name of 32 letters
+      PROGRAM T\n      \32{I} = 1\n      END\n ~ t.f:2: 99 NotBuilt IIIIIIIIIIII\n
+
+# two operators together, parentheses, another operator, an operator at the end
+      PROGRAM T\n      I = 2 + -3\n      END\n ~ t.f:2: 99 NotBuilt I=2+-3\n
+      PROGRAM T\n      I = (1)\n      END\n ~ t.f:2: 99 NotBuilt I=(1)\n
+
+C     FIRST\n\
+      PROGRAM T\n\
+      I = 1\n\
+*     NEXT\n\
+      J = I * 2\n\
+\n\
+      STOP\n\
+      END\n ~ \
+t.f:5: 99 NotBuilt J=I*2\n
+      PROGRAM T\n      I = 1 +\n      END\n ~ t.f:2: 99 NotBuilt I=1+\n
+
+# a missing side
+      PROGRAM T\n      I =\n      END\n ~ t.f:2: 99 NotBuilt I=\n
+      PROGRAM T\n      = 1\n      END\n ~ t.f:2: 99 NotBuilt =1\n
+
+# a code of STOP, a label, a statement without characters
+      PROGRAM T\n\
+      STOP 1\n\
+   10 CONTINUE\n\
+     0\n\
+10\n\
+      END\n ~ \
+t.f:2: 99 NotBuilt STOP1\n\
+t.f:3: 99 NotBuilt CONTINUE\n\
+t.f:4: 99 NotBuilt \n\
+t.f:5: 99 NotBuilt \n
+
+# all of them, in order, lower case read as upper case
+      x = 1\n\
+      PROGRAM T\n\
+C\n\
+      go to 10\n\
+      i = t\n\
+      END\n ~ \
+t.f:1: 99 NotBuilt X=1\n\
+t.f:4: 99 NotBuilt GOTO10\n\
+t.f:5: 99 NotBuilt I=T\n
+
+# kept text as it stands
+      PROGRAM T\n\
+      I = 'a b'\n\
+   10 FORMAT(3Ha b)\n\
+      END\n ~ \
+t.f:2: 99 NotBuilt I='a b'\n\
+t.f:3: 99 NotBuilt FORMAT(3Ha b\n
+
+# at the initial line
+      PROGRAM T\n\
+      CALL\n\
+C\n\
+     1 SUBROUTINE\n\
+      END\n ~ \
+t.f:2: 99 NotBuilt CALLSUBROUTI\n
+
+# a written line of 133 characters
+      PROGRAM T\n\
+      I=\31{N}+\31{N}+\n\
+     1\31{N}+\25{M}\n\
+      END\n ~ \
+t.f:2: 99 NotBuilt I=NNNNNNNNNN\n
+
+# lines come before statements
+      PROGRAM T\n\
+1A    I = 1\n\
+12   +  + 1\n\
+C\132{x}\n\
+      \x09I = 1\n\
+      GO TO 10\n\
+      END\n ~ \
+t.f:2: 3 BadLabelField 2\n\
+t.f:3: 3 BadLabelField 1\n\
+t.f:4: 2 LineTooLong 133\n\
+t.f:5: 6 BadCharacter 7\n
+
+      PROGRAM T\n\
+1A    I = 1\n\
+12   +  + 1\n\
+C\132{x}\n\
+      \x09I = 1\n\
+      END\n ~ \
+t.f:2: 3 BadLabelField 2\n\
+t.f:3: 3 BadLabelField 1\n\
+t.f:4: 2 LineTooLong 133\n\
+t.f:5: 6 BadCharacter 7\n
+     1I = 1 ~ t.f:1: 4 ContinuationFirst 6\n
+
+      PROGRAM T\n\
+      I = 1\n\
+\100{     1+1\n}      END\n ~ \
+t.f:102: 5 TooManyContinuations 6\n
+";

@@ -1,0 +1,17 @@
+// The text of expressions.
+
+/// The FORTRAN 77 expression; its text in Fortran 90.
+pub const EXPRESSIONS: &str = r"
+-A**2+B*C/D-1 ~ -A ** 2 + B * C / D - 1
+2147483647 ~ 2147483647
+0 ~ 0
+(A+B)*(-C) ~ (A + B) * (-C)
+A.LT.B.AND..NOT.C.LE.D.OR.E ~ A < B .AND. .NOT. C <= D .OR. E
+A.EQ.B.EQV.C.NE.D.NEQV.E.GT.F ~ A == B .EQV. C /= D .NEQV. E > F
+A.GE.B ~ A >= B
+.TRUE..OR..FALSE. ~ .TRUE. .OR. .FALSE.
+'IT''S'//C(2:) ~ 'IT''S' // C(2:)
+F()+F(1,G(2),C(:I+1)) ~ F() + F(1, G(2), C(:I + 1))
+W(I,J)(1:2)//C(:) ~ W(I, J)(1:2) // C(:)
++NAME_OF_31_CHARACTERS_IN_ALL_XY ~ +NAME_OF_31_CHARACTERS_IN_ALL_XY
+";

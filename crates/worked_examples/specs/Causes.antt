@@ -1,0 +1,47 @@
+-- The causes of refusals.
+use Rattle.std.specs.Prelude.{ℕ, List, [], ◌∷◌, codes}
+use Rattle.text_base.specs.declared.refusal.Cause.{Cause}
+use Rattle.text_base.specs.declared.refusal.Cause.TheVariants.{FileTooLarge, LineTooLong, BadLabelField, ContinuationFirst, TooManyContinuations, BadCharacter, NotAStatement, Unsupported, ConstantRange, NameTooLong, StatementOrder, BadNesting, MissingEnd, RealType, Redeclared, LabelMissing, LabelTwice, JumpIntoBlock, TypeMismatch, SubscriptCount, BadBound, BadConstant, EquivConflict, EquivKinds, EquivCommon, DataMismatch, DataTwice, UnitTwice, MainCount, NoSuchUnit, ArgMismatch, Recursion, CommonKinds, BlockTooLarge, NameInView, FunctionInView, StatementTooLong, NotBuilt}
+
+-- each cause, with its number and its name
+abbrev pub causes : List (Cause × (ℕ × List ℕ))
+causes =
+    (FileTooLarge, (1, codes "FileTooLarge"))
+    ∷ (LineTooLong, (2, codes "LineTooLong"))
+    ∷ (BadLabelField, (3, codes "BadLabelField"))
+    ∷ (ContinuationFirst, (4, codes "ContinuationFirst"))
+    ∷ (TooManyContinuations, (5, codes "TooManyContinuations"))
+    ∷ (BadCharacter, (6, codes "BadCharacter"))
+    ∷ (NotAStatement, (7, codes "NotAStatement"))
+    ∷ (Unsupported, (8, codes "Unsupported"))
+    ∷ (ConstantRange, (9, codes "ConstantRange"))
+    ∷ (NameTooLong, (10, codes "NameTooLong"))
+    ∷ (StatementOrder, (11, codes "StatementOrder"))
+    ∷ (BadNesting, (12, codes "BadNesting"))
+    ∷ (MissingEnd, (13, codes "MissingEnd"))
+    ∷ (RealType, (14, codes "RealType"))
+    ∷ (Redeclared, (15, codes "Redeclared"))
+    ∷ (LabelMissing, (16, codes "LabelMissing"))
+    ∷ (LabelTwice, (17, codes "LabelTwice"))
+    ∷ (JumpIntoBlock, (18, codes "JumpIntoBlock"))
+    ∷ (TypeMismatch, (19, codes "TypeMismatch"))
+    ∷ (SubscriptCount, (20, codes "SubscriptCount"))
+    ∷ (BadBound, (21, codes "BadBound"))
+    ∷ (BadConstant, (22, codes "BadConstant"))
+    ∷ (EquivConflict, (23, codes "EquivConflict"))
+    ∷ (EquivKinds, (24, codes "EquivKinds"))
+    ∷ (EquivCommon, (25, codes "EquivCommon"))
+    ∷ (DataMismatch, (26, codes "DataMismatch"))
+    ∷ (DataTwice, (27, codes "DataTwice"))
+    ∷ (UnitTwice, (28, codes "UnitTwice"))
+    ∷ (MainCount, (29, codes "MainCount"))
+    ∷ (NoSuchUnit, (30, codes "NoSuchUnit"))
+    ∷ (ArgMismatch, (31, codes "ArgMismatch"))
+    ∷ (Recursion, (32, codes "Recursion"))
+    ∷ (CommonKinds, (33, codes "CommonKinds"))
+    ∷ (BlockTooLarge, (34, codes "BlockTooLarge"))
+    ∷ (NameInView, (35, codes "NameInView"))
+    ∷ (FunctionInView, (36, codes "FunctionInView"))
+    ∷ (StatementTooLong, (37, codes "StatementTooLong"))
+    ∷ (NotBuilt, (99, codes "NotBuilt"))
+    ∷ []

@@ -1,0 +1,14 @@
+pub mod Tables
+pub mod Causes
+pub mod Words
+pub mod Sources
+pub mod Read
+pub mod Runs
+pub mod Written
+pub mod Statements
+pub mod Expressions
+pub mod Refused
+pub mod KeptText
+pub mod Wrong
+pub mod FreeForm
+pub mod Printed

@@ -1,0 +1,69 @@
+-- Files of which something is refused.
+use Rattle.std.specs.Prelude.{ℕ, List, [], ◌∷◌, ◌++◌, flat_map, codes}
+use Rattle.text_base.specs.LineRefusals.{Begun}
+use Rattle.text_base.specs.declared.refusal.Cause.{Cause}
+use Rattle.text_base.specs.declared.refusal.Cause.TheVariants.{LineTooLong, BadLabelField, ContinuationFirst, BadCharacter, NotBuilt}
+use Rattle.text_base.specs.declared.refusal.Refusal.{Refusal}
+use Rattle.worked_examples.specs.Read.{at_line}
+use Rattle.worked_examples.specs.Sources.{blanks, zeros}
+
+-- a refusal at a line, with what it names
+abbrev pub at : ℕ → Cause → List ℕ → Refusal
+at line cause name = record { place = at_line line; cause = cause; name = name }
+
+-- a main program T with some lines between its header, on line 1, and its END
+abbrev pub program_with : List ℕ → List ℕ
+program_with text = codes "      PROGRAM T\n" ++ text ++ codes "      END\n"
+
+-- a text so many times
+abbrev pub repeated : ℕ → List ℕ → List ℕ
+repeated n text = flat_map (λ k. text) (zeros n)
+
+-- files, and all that is refused of them
+abbrev pub refused_sources : List (List ℕ × List Refusal)
+refused_sources =
+    -- a letter in the label field, a label of zeros, and a label in a continuation line
+    (program_with (codes "  A   I = 1\n"), at 2 BadLabelField (codes "3") ∷ [])
+    ∷ (program_with (codes " 0 0  I = 1\n"), at 2 BadLabelField (codes "1") ∷ [])
+    ∷ (program_with (codes "      I = 1\n" ++ codes " 1   1+ 2\n"), at 3 BadLabelField (codes "2") ∷ [])
+    -- a continuation line before any initial line, and behind a comment
+    ∷ (codes "     1 I = 1\n" ++ codes "      END\n", at 1 ContinuationFirst (codes "6") ∷ [])
+    ∷ (codes "C     C\n" ++ codes "     1 I = 1\n", at 2 ContinuationFirst (codes "6") ∷ [])
+    -- the byte 31 outside a constant; a tab inside one, in column 6, and behind column 72
+    ∷ (program_with (codes "      I =" ++ 31 ∷ codes "1\n"), at 2 BadCharacter (codes "10") ∷ [])
+    ∷ (program_with (codes "      C = '\t'\n"), at 2 BadCharacter (codes "12") ∷ [])
+    ∷ (program_with (codes "      I = 1\n" ++ codes "     \t+ 2\n"), at 3 BadCharacter (codes "6") ∷ [])
+    ∷ (program_with (codes "      I = 1" ++ blanks 61 ++ codes "\t\n"), [])
+    -- the bytes 126 and 127; a greater one outside a constant, and inside one
+    ∷ (program_with (codes "      I = ~\n"), at 2 NotBuilt (codes "I=~") ∷ [])
+    ∷ (program_with (codes "      C = '" ++ 127 ∷ codes "'\n"), at 2 BadCharacter (codes "12") ∷ [])
+    ∷ (program_with (codes "      I = " ++ 128 ∷ codes "\n"), at 2 BadCharacter (codes "11") ∷ [])
+    ∷ (program_with (codes "      C = '" ++ 128 ∷ codes "'\n"), at 2 NotBuilt (codes "C='" ++ 128 ∷ codes "'") ∷ [])
+    -- a comment and a line of a statement of 133 characters, and one of 132
+    ∷ (program_with (codes "C" ++ blanks 132 ++ codes "\n"), at 2 LineTooLong (codes "133") ∷ [])
+    ∷ (program_with (codes "      I = 1" ++ blanks 122 ++ codes "\n"), at 2 LineTooLong (codes "133") ∷ [])
+    ∷ (program_with (codes "      I = 1" ++ blanks 121 ++ codes "\n"), [])
+    -- several lines, in order, before any statement
+    ∷ (program_with (codes "X     I = 1\n" ++ codes "      A = 1\n" ++ codes "      J =\t1\n"), at 2 BadLabelField (codes "1") ∷ at 4 BadCharacter (codes "10") ∷ [])
+    -- a real variable, the program's name as a variable, a label, and a product
+    ∷ (program_with (codes "      A = 1\n"), at 2 NotBuilt (codes "A=1") ∷ [])
+    ∷ (codes "      PROGRAM I\n" ++ codes "      I = 1\n" ++ codes "      END\n", at 2 NotBuilt (codes "I=1") ∷ [])
+    ∷ (program_with (codes "   10 I = 1\n"), at 2 NotBuilt (codes "I=1") ∷ [])
+    ∷ (program_with (codes "      J = I * 2\n"), at 2 NotBuilt (codes "J=I*2") ∷ [])
+    -- integer variables begin with I to N
+    ∷ (program_with (codes "      H = 1\n" ++ codes "      I = 1\n" ++ codes "      N = 1\n" ++ codes "      O = 1\n"), at 2 NotBuilt (codes "H=1") ∷ at 5 NotBuilt (codes "O=1") ∷ [])
+    -- the first 12 characters are shown; each statement has its refusal
+    ∷ (program_with (codes "      LONG = I12345 * 2\n" ++ codes "      GO TO 10\n"), at 2 NotBuilt (codes "LONG=I12345*") ∷ at 3 NotBuilt (codes "GOTO10") ∷ [])
+    -- a written line of 132 characters, and one of 133
+    ∷ (program_with (codes "      I=-1" ++ repeated 31 (codes "+1") ++ codes "\n"), [])
+    ∷ (program_with (codes "      I1=-1" ++ repeated 30 (codes "+1") ++ codes "+\n" ++ codes "     11\n"), at 2 NotBuilt (codes "I1=-1+1+1+1+") ∷ [])
+    -- files that aren't one main program: an empty one, one without END, one without PROGRAM, and one that goes on
+    ∷ ([], at 0 NotBuilt (codes "0") ∷ [])
+    ∷ (codes "      PROGRAM T\n" ++ codes "      I = 1\n", at 0 NotBuilt (codes "0") ∷ [])
+    ∷ (codes "      I = 1\n" ++ codes "      END\n", at 0 NotBuilt (codes "0") ∷ [])
+    ∷ (program_with [] ++ codes "      I = 1\n", at 0 NotBuilt (codes "0") ∷ [])
+    ∷ []
+
+-- a statement that has so many continuation lines
+abbrev pub continued : ℕ → Begun
+continued count = record { label = 0; text = []; continued = count }
