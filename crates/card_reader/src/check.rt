@@ -88,7 +88,7 @@ fn read_initial(line: &[u8]) -> Result<Scan, Fault>
     read_characters(Scan::start(label_of(line)), line)
 }
 
-/// A continuation line of a statement that was begun, likewise. There are at most `MOST_CONTINUED`.
+/// A continuation line of a statement that was begun, likewise. There are at most `MOST_CONTINUED` since the last initial line.
 fn read_continuation(state: State, line: &[u8]) -> Result<Scan, Fault>
     ensures fault { fault_in result ≡ reading.read_continuation (Some (state_of state)) line.now }
     ensures after { IfOk result (λ after. scan_of after ≡ scan_all (scan_of state.scan) (statement_field line.now)) }

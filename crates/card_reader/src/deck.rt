@@ -81,7 +81,7 @@ impl Deck {
         Ok(())
     }
 
-    /// Takes one more line of the file, which has no LF.
+    /// Takes one more line of the file, which has no LF. It fails for want of memory alone.
     pub(crate) fn take_line(
         &mut self,
         alloc: Global,

@@ -18,7 +18,7 @@ pub struct Fault {
     pub number: usize,
 }
 
-/// The fault as a refusal at a place.
+/// The fault as a refusal at a place. It fails for want of memory alone.
 pub fn refusal_at(alloc: Global, place: Place, fault: Fault) -> Result<Refusal, AllocError>
     ensures { IfOk result (λ refusal. refusal ≡ record { place = place; cause = fault.cause; name = decimal fault.number }) }
 {

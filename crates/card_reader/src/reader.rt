@@ -134,7 +134,7 @@ fn too_large(alloc: Global, file: u32, size: usize) -> Result<Refusals, AllocErr
 ///
 /// Out: the deck, or `Refused` where the file has more than `LARGEST_FILE` bytes, or a line, in this order of causes, that
 /// has more than `LONGEST_LINE` bytes, a bad label field, or, on a continuation line, no initial line before it or
-/// `MOST_CONTINUED` continuation lines of its statement, or a bad character. The list has each such line, in order, with
+/// `MOST_CONTINUED` continuation lines since it, or a bad character. The list has each such line, in order, with
 /// the first of these causes that applies; of the continuation lines of a statement only the first that is too many is
 /// refused for that. Either may give way to `Memory`, for want of memory, which says nothing of the file.
 pub fn read_cards(alloc: Global, file: u32, bytes: &[u8]) -> Result<Deck, CardsError>

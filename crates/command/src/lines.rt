@@ -37,7 +37,7 @@ fn refusal_line(alloc: Global, file: &str, refusal: &Refusal) -> Result<Bytes, A
     Ok(text)
 }
 
-/// A line `file:line: number cause name` for each refusal.
+/// A line `file:line: number cause name` for each refusal. It fails for want of memory alone.
 pub fn refusal_text(alloc: Global, file: &str, refusals: &[Refusal]) -> Result<Bytes, AllocError>
     ensures { IfOk result (λ text. text ≡ refusal_lines file.now refusals.now) }
 {

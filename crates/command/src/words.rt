@@ -32,7 +32,7 @@ fn are_operands(file: &str, out: &str, map: &str, report: &str) -> bool
     is_operand(file) && is_operand(out) && file != out && file != map && file != report
 }
 
-/// The request that the words form, if they form one.
+/// The request that the words form, if they form one. It fails for want of memory alone.
 pub fn read_words<'a>(alloc: Global, words: &'a [String]) -> Result<Option<Request<'a>>, AllocError>
     ensures form { IfOk result (λ request. option_map command_of request ≡ form (words_of words.now)) }
     ensures map { IfOk result (λ request. IfSome request (λ r. string_bytes r.map ≡ map_name r.out.now)) }

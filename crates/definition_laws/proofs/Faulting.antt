@@ -3,7 +3,7 @@ use Rattle.std.proofs.Common.{◌≡◌, inl, inr, ℕ, zero, suc, ◌<◌, List
 use Rattle.std.specs.Prelude.{slice_get}
 use Rattle.std.proofs.lemmas.List.{length-set}
 use Rattle.std.proofs.lemmas.List.Elements.{All-get_or, All-set, All-weaker, Contains-append_left, Contains-append_right, Contains-append_cases}
-use Rattle.std.proofs.lemmas.Option.{slice_get-get_or}
+use Rattle.std.proofs.lemmas.Option.{slice_get-get_or, slice_get_within, get_or_from_slice_get}
 use Rattle.text_base.specs.Trees.{Expr, Action, assign, stop}
 use Rattle.text_base.specs.Names.{expr_names, action_names}
 use Rattle.text_base.specs.Values.{Value, integer, Held, undefined, held, integer_in, RunFault, Undefined, Overflow}
@@ -22,8 +22,12 @@ use Rattle.definition_laws.specs.Statements.{actions_of}
 use Rattle.definition_laws.specs.Faults.{FaultsBy, ReadsUndefined, Overflows, IsPlain, IsStoreOf}
 use Rattle.definition_laws.proofs.Evaluating.{result, undefined_name, overflowing}
 use Rattle.definition_laws.proofs.Acting.{IsEvaluated, Acts, acts}
-use Rattle.definition_laws.proofs.NameOrder.{first_of, only_of, seen}
+use Rattle.definition_laws.proofs.NameOrder.{only_of, seen}
 use Rattle.definition_laws.proofs.StorageLemmas.{one_entity, within, start_undefined}
+
+-- what stands at a place of a list is in it
+in_list : {X : Type 0} (xs : List X) (i : ℕ) (x : X) → slice_get xs i ≡ Some x → Contains xs x
+in_list xs i x at = (i, slice_get_within xs i x at, get_or_from_slice_get xs i x x at)
 
 -- the names of a statement are among those of its list
 named : (c : Code) (here : Place) (d x : Expr) (y : List ℕ) → Contains (actions_of c) (here, assign d x) → Contains (expr_names x) y → Contains (code_names c) y
@@ -81,8 +85,8 @@ module _ (storage : Storage Store) (function : Call Store) where
     pub record Found (c : Code) (depth : ℕ) (loops : List Open) (n : ℕ) (w : Store) (here : Place) (kind : RunFault) : Type 0 where
       pub variable : Expr
       pub value : Expr
-      pub stands : Contains (actions_of c) (here, assign variable value)
       pub before : ℕ
+      pub stands : slice_get (actions_of c) before ≡ Some (here, assign variable value)
       pub earlier : before < n
       pub store : Store
       pub reached : run c depth loops before w ≡ over (going store)
@@ -111,7 +115,7 @@ module _ (storage : Storage Store) (function : Call Store) where
             record {
               variable = r.variable;
               value = r.value;
-              stands = Contains-append_right ((at, assign d x) ∷ []) (actions_of rest) (here, assign r.variable r.value) r.stands;
+              stands = r.stands;
               before = suc r.before;
               earlier = omega (arith, r.earlier);
               store = r.store;
@@ -126,7 +130,7 @@ module _ (storage : Storage Store) (function : Call Store) where
             record {
               variable = d;
               value = x;
-              stands = subst (λ p. Contains (actions_of (item label at (simple (assign d x)) rest)) (p, assign d x)) place (first_of (at, assign d x) (actions_of rest));
+              stands = ap (λ p. Some (p, assign d x)) place;
               before = 0;
               earlier = omega arith;
               store = w;
@@ -194,7 +198,7 @@ module _ (p : SourceProgram) where
             earlier = r.earlier;
             store = r.store;
             reached = ap (λ o. run_main layout o r.before) at ∙ ap (λ o. close o flat.stop_at_end) r.reached;
-            cause = cause u r.store r.variable r.value at r.stands r.good r.faulted;
+            cause = cause u r.store r.variable r.value at (in_list (actions_of u.code) r.before (here, assign r.variable r.value) r.stands) r.good r.faulted;
           }
 
   -- what can't be read holds nothing

@@ -104,15 +104,15 @@ LeftIsFirst W = (storage : Storage W) (function : Call W) (here : Place) (op : B
 
 -- ---- runs
 
--- The main program has an assignment at the place, which the run comes to before its nth statement, with this cause of a
--- fault in the store that it comes with.
+-- The main program has an assignment at the place, and so many statements before it, which are fewer than n; the run does
+-- those without fault, and there is a cause of this fault in the store that it comes to the assignment with.
 pub record FaultsBy (p : SourceProgram) (n : ℕ) (here : Place) (Cause : Store → Expr → Type 0) : Type 0 where
   pub main : SourceUnit
   pub is_main : slice_get p.units 0 ≡ Some main
   pub variable : Expr
   pub value : Expr
-  pub stands : Contains (actions_of main.code) (here, assign variable value)
   pub before : ℕ
+  pub stands : slice_get (actions_of main.code) before ≡ Some (here, assign variable value)
   pub earlier : before < n
   pub store : Store
   pub reached : run77 p before ≡ going store

@@ -13,7 +13,7 @@ use std::alloc::AllocError;
 use text_base::Bytes;
 use tree90::{Expr90, Exprs90};
 
-/// Appends an expression.
+/// Appends an expression. It fails for want of memory alone.
 #[cycle(expression)]
 #[tactic(auto, using(crate::proofs::Joining::joining))]
 pub fn write_expr(out: &mut Bytes, expr: &Expr90) -> Result<(), AllocError>

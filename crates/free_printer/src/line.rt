@@ -10,7 +10,7 @@ use text_base::limits::MOST_INDENTED;
 // The most blanks that a line begins with.
 const BLANKS: [u8; MOST_INDENTED] = [b' '; MOST_INDENTED];
 
-/// Appends a line of some words and what follows them.
+/// Appends a line of some words and what follows them. It fails for want of memory alone.
 pub fn write_line(
     out: &mut Bytes,
     level: usize,
@@ -25,7 +25,7 @@ pub fn write_line(
     out.push(b'\n')
 }
 
-/// Appends the blanks that a line of this level begins with.
+/// Appends the blanks that a line of this level begins with. It fails for want of memory alone.
 #[tactic(auto, using(crate::proofs::Lists::blanks))]
 pub fn indent(out: &mut Bytes, level: usize) -> Result<(), AllocError>
     ensures { OnOk result (out.new ≡ out.old ++ replicate (min (2 * level) MOST_INDENTED) 32) }

@@ -52,7 +52,7 @@ pub struct Feed {
 }
 
 impl Feed {
-    /// All symbols are left.
+    /// All symbols are left. It fails for want of memory alone.
     #[tactic(auto, unfolding(crate::specs::Groups::symbols_left))]
     pub fn new(alloc: Global, symbols: Symbols) -> Result<Feed, AllocError>
         ensures { IfOk result (λ feed. symbols_left feed ≡ map grammar_symbol symbols) }
@@ -131,7 +131,7 @@ impl Feed {
         found
     }
 
-    /// Takes the operand that stands next.
+    /// Takes the operand that stands next. `NotSpelled` where none stands there.
     pub fn take_operand(&mut self) -> Result<Expr, BuildError>
         ensures { GivesAndLeaves result (symbols_left self.new) (grouping.read_operand (symbols_left self.old)) }
     {

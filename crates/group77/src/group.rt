@@ -181,7 +181,8 @@ fn alone(mut symbols: Symbols) -> Result<Expr, BuildError>
     }
 }
 
-/// The tree of operands and operators, by precedence (X3.9 section 6.5).
+/// The tree of operands and operators, by precedence (X3.9 section 6.5). `NotSpelled` where they are no expression. `Memory` may
+/// come in place of either.
 #[tactic(auto, unfolding(crate::specs::Grouping::group))]
 pub fn group(alloc: Global, symbols: Symbols) -> Result<Expr, BuildError>
     ensures { Gives result (grouping.group (map grammar_symbol symbols)) }

@@ -82,7 +82,7 @@ fn opening_behind_operand(
     }
 }
 
-/// What a parenthesis behind a symbol belongs to, where this is an operand.
+/// What a parenthesis behind a symbol belongs to, where this is an operand, else `NotSpelled`.
 pub fn opening_behind(
     alloc: Global,
     symbol: Symbol,
@@ -96,7 +96,7 @@ pub fn opening_behind(
     }
 }
 
-/// The variable or array element that a substring is part of, where a colon stands here.
+/// The variable or array element that a substring is part of, where a colon stands here, else `NotSpelled`.
 pub fn parent_of(of: Opening) -> Result<Expr, BuildError>
     ensures { GivesSeen expr_of result (machine.parent_in (opening_of of)) }
 {
@@ -124,7 +124,8 @@ pub fn is_specifier(symbols: &Symbols) -> bool
     matches!(symbols.as_slice(), [Symbol::Alternate])
 }
 
-/// The tree of an argument or a subscript: of an expression, or 0 for an alternate return specifier.
+/// The tree of an argument or a subscript: of an expression, or 0 for an alternate return specifier. `NotSpelled` where the
+/// symbols are neither. `Memory` may come in place of either.
 pub fn argument(alloc: Global, symbols: Symbols) -> Result<Expr, BuildError>
     ensures { Gives result (machine.read_argument (map grammar_symbol symbols)) }
 {
@@ -134,7 +135,8 @@ pub fn argument(alloc: Global, symbols: Symbols) -> Result<Expr, BuildError>
     group(alloc, symbols)
 }
 
-/// A bound of a substring, `None` where none is written.
+/// A bound of a substring, `None` where none is written. `NotSpelled` where the symbols are no expression. `Memory` may come in
+/// place of either.
 pub fn bound(alloc: Global, symbols: Symbols) -> Result<Option<Boxed<Expr>>, BuildError>
     ensures { GivesSeen (λ x. bound_of (option_map expr_of x)) result (machine.read_bound (map grammar_symbol symbols)) }
 {
@@ -169,7 +171,8 @@ fn closed_list(
     Ok(Expr::Call(name, arguments))
 }
 
-/// The tree that a parenthesis ends, where these symbols stand before it.
+/// The tree that a parenthesis ends, where these symbols stand before it. `NotSpelled` where they are none. `Memory` may come in
+/// place of either.
 pub fn closed(alloc: Global, of: Opening, symbols: Symbols) -> Result<Expr, BuildError>
     ensures { Gives result (machine.close_level (opening_of of) (map grammar_symbol symbols)) }
 {

@@ -62,14 +62,14 @@ impl<T> Stack<T> {
 }
 
 impl<T: Drop> Stack<T> {
-    /// Puts a value on top.
+    /// Puts a value on top. It fails for want of memory alone.
     pub fn push(&mut self, value: T) -> Result<(), AllocError>
         ensures { OnOk result (self.new ≡ value ∷ self.old) }
     {
         self.values.push(value)
     }
 
-    /// The values of a list, the first on top.
+    /// The values of a list, the first on top. It fails for want of memory alone.
     pub fn from_items(alloc: Global, mut items: Items<T>) -> Result<Stack<T>, AllocError>
         ensures { IfOk result (λ stack. stack ≡ items) }
     {

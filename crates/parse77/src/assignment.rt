@@ -56,7 +56,7 @@ fn assigned(
 }
 
 /// The assignment that the pieces spell: a variable, an equals sign and an expression (X3.9 section 10.1). `None` where
-/// they spell none.
+/// they spell none. It fails for want of memory alone.
 pub fn assignment(
     alloc: Global,
     place: Place,

@@ -50,7 +50,7 @@ fn alone(statement: Statement, rest: PieceSlice<'_>) -> Option<Statement>
 }
 
 /// The statement of this keyword that the pieces spell: PROGRAM, CONTINUE, STOP or END (X3.9 sections 14.1, 11.11, 11.12
-/// and 11.14). `None` where they spell none.
+/// and 11.14). `None` where they spell none. It fails for want of memory alone.
 pub fn keyword_statement(
     alloc: Global,
     word: Word,

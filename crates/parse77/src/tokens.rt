@@ -11,7 +11,7 @@ use scan77::{PieceSlice, ScanError, Token, TokenKind, Tokens, cut, one_cut};
 use std::alloc::{AllocError, Global};
 use text_base::Name;
 
-/// The tokens of some pieces. `None` where they can't be cut.
+/// The tokens of some pieces. `None` where they can't be cut. It fails for want of memory alone.
 pub fn tokens<'a>(alloc: Global, pieces: PieceSlice<'a>) -> Result<Option<Tokens<'a>>, AllocError>
     ensures read { IfOk result (λ made. option_map tokens_of made ≡ read_tokens (slice_of pieces.entry) no_token) }
     ensures cut { IfOk result (λ made. IfSome made (λ tokens. IsCut (slice_of pieces.entry) (tokens_of tokens))) }

@@ -62,7 +62,7 @@ is_built_statement unit (action a) = is_built_action a && (list_all (is_free_nam
 is_built_statement unit continue = true
 is_built_statement unit end = true
 
--- a statement without a label that has a spelling, and can be converted in the program of this name
+-- a statement that was read, and can be converted in the program of this name
 abbrev pub is_built_as : Option (List ℕ) → Option Statement → Bool
 is_built_as unit None = false
 is_built_as unit (Some s) = is_built_statement unit s

@@ -26,7 +26,7 @@ pub struct PieceReader {
 }
 
 impl PieceReader {
-    /// Nothing has been read. There is room for so many characters.
+    /// Nothing has been read. There is room for so many characters. It fails for want of memory alone.
     pub fn with_room(alloc: Global, room: usize) -> Result<PieceReader, AllocError>
         ensures nothing { IfOk result (λ reader. read_so_far reader ≡ record { pieces = []; current = no_text }) }
         ensures marked { IfOk result (λ reader. IsMarked reader) }
@@ -123,7 +123,7 @@ impl PieceReader {
         self.push_plain(to_upper(byte))
     }
 
-    /// Takes one more character of a statement, of which the characters so far say what they do.
+    /// Takes one more character of a statement, of which the characters so far say what they do. It fails for want of memory alone.
     pub fn take(&mut self, scan: Scan, byte: u8) -> Result<(), AllocError>
         requires { IsMarked self.old }
         ensures marked { OnOk result (IsMarked self.new) }

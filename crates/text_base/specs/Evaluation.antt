@@ -1,5 +1,6 @@
 -- Expressions, from left to right, and simple statements over any kind of storage (X3.9 sections 6.6 and 10.1;
--- ISO/IEC 1539:1991 sections 7.1.7 and 7.5.1). Both meanings evaluate so, and share nothing of control.
+-- ISO/IEC 1539:1991 sections 7.1.7 and 7.5.1). Both meanings evaluate so. They share this, with the counting of a simple
+-- statement; how they go from statement to statement each says for itself.
 use Rattle.std.specs.Prelude.{ℕ, List, Option, None}
 use Rattle.text_base.specs.Trees.{Expr, int, bool, text, name, call, substring, unary, binary, paren, Action, assign, stop}
 use Rattle.text_base.specs.Values.{Value, integer, Undefined, ExpressionDefined, NoMeaning}

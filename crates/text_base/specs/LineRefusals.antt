@@ -68,7 +68,7 @@ character_fault b l = column_fault BadCharacter (bad_column b l)
 abbrev pub initial_fault : List ℕ → Option Fault
 initial_fault l = option_or (long_fault l) (option_or (label_fault l) (character_fault (begun_by l) l))
 
--- A continuation line needs an initial line before it, and isn't the 100th of its statement; column 6 is named.
+-- A continuation line needs an initial line before it, and isn't the 100th since the last one; column 6 is named.
 abbrev pub place_fault : Option Begun → List ℕ → Option Fault
 place_fault None l = Some (ContinuationFirst, decimal 6)
 place_fault (Some b) l = if b.continued == MOST_CONTINUED then Some (TooManyContinuations, decimal 6) else character_fault b l

@@ -1,5 +1,5 @@
 // The outside as it is: files by their paths, and standard output. Neither tells what it holds.
-ghost use Rattle.std.specs.Prelude.{◌≡◌, ◌+◌, ◌≤◌, ◌++◌, List, ℕ, None, Err, IfSome, OnOk, IsErrOf, ◌↔◌, vec_len};
+ghost use Rattle.std.specs.Prelude.{◌≡◌, ◌+◌, ◌≤◌, ◌∷◌, ◌++◌, List, ℕ, [], None, Err, IfSome, OnOk, IfErr, IsErrOf, ◌↔◌, vec_len};
 ghost use Rattle.text_base.specs.Faults.{Rose};
 
 use crate::limits::LARGEST_PROJECT;
@@ -61,7 +61,7 @@ impl FileId {
 /// The files of the machine by their paths. It tells nothing of what it holds. It counts each read fault, each absence, each
 /// write fault, and each write that wanted memory. A file that was read through it is never written by it, by whatever path it
 /// is reached: a relative path, a symbolic link or another name of the same file. Such a write is a write fault, and the file
-/// stays as it was.
+/// stays as it was; so is a write where it can't be told which file a path leads to.
 #[derive(Drop)]
 pub struct DiskShelf<'a, R> {
     rt: &'a R,
@@ -91,37 +91,67 @@ impl<'a, R: Files> DiskShelf<'a, R> {
     }
 }
 
+// Which file an open one is.
+fn id_of<F: OpenFile>(file: &F) -> Result<FileId, ShelfRead>
+    ensures { IsErrOf result ShelfRead.Missing → ⊥ }
+{
+    match file.metadata() {
+        Ok(metadata) => Ok(FileId::of(&metadata)),
+        Err(error) if error.kind() == ErrorKind::OutOfMemory => Err(ShelfRead::Memory),
+        Err(_) => Err(ShelfRead::Failed),
+    }
+}
+
 impl<R: Files> DiskShelf<'_, R> {
-    // Opens a file to read it, and remembers which one it is.
-    fn open(&mut self, name: &str) -> Result<R::File, ShelfRead>
+    // Remembers a file that is read.
+    fn remember(&mut self, id: FileId) -> Result<(), ShelfRead>
+        ensures remembered { OnOk result (self.new.sources.items ≡ self.old.sources.items ++ id ∷ []) }
+        ensures memory { IfErr result (λ cause. cause ≡ ShelfRead.Memory) }
         ensures others { self.new ≡ record self.old { sources = self.new.sources } }
     {
-        let opened = fs::open(self.rt, name);
-        let file = opened.map_err(|error| cause_of(error.kind()))?;
-        let Ok(metadata) = file.metadata() else {
-            return Err(ShelfRead::Failed);
-        };
-        match self.sources.push(FileId::of(&metadata)) {
-            Ok(()) => Ok(file),
+        match self.sources.push(id) {
+            Ok(()) => Ok(()),
             Err(_) => Err(ShelfRead::Memory),
         }
     }
 
-    // Whether a path leads to a file that was read through this shelf.
-    fn is_source(&self, name: &str) -> bool {
+    // Opens a file to read it, and remembers which one it is.
+    fn open(&mut self, name: &str) -> Result<R::File, ShelfRead>
+        ensures remembers { OnOk result ((id : FileId) × (self.new.sources.items ≡ self.old.sources.items ++ id ∷ [])) }
+        ensures others { self.new ≡ record self.old { sources = self.new.sources } }
+    {
+        let opened = fs::open(self.rt, name);
+        let file = opened.map_err(|error| cause_of(error.kind()))?;
+        let id = id_of(&file)?;
+        self.remember(id)?;
+        Ok(file)
+    }
+
+    // Whether a path leads to a file that was read through this shelf. A path that leads nowhere doesn't. Where it can't be
+    // told, that is an error.
+    fn is_source(&self, name: &str) -> Result<bool, ErrorKind>
+        ensures { IfErr result (λ kind. kind ≡ ErrorKind.NotFound → ⊥) }
+    {
         match fs::metadata(self.rt, name) {
-            Ok(metadata) => self.sources.contains(&FileId::of(&metadata)),
-            Err(_) => false,
+            Ok(metadata) => Ok(self.sources.contains(&FileId::of(&metadata))),
+            Err(error) if error.kind() == ErrorKind::NotFound => Ok(false),
+            Err(error) => Err(error.kind()),
         }
     }
 
-    // Counts a write fault.
-    fn refuse(&mut self) -> Result<(), ShelfWrite>
-        ensures failed { result ≡ Err ShelfWrite.Failed }
-        ensures counted { Rose self.old.write_faults self.new.write_faults }
-        ensures count { self.old.write_faults ≤ self.new.write_faults }
-        ensures others { self.new ≡ record self.old { write_faults = self.new.write_faults } }
+    // Counts a write that failed for this cause.
+    fn fail(&mut self, kind: ErrorKind) -> Result<(), ShelfWrite>
+        ensures memory { (result ≡ Err ShelfWrite.Memory) ↔ (kind ≡ ErrorKind.OutOfMemory) }
+        ensures error { OnOk result ⊥ }
+        ensures failed { IsErrOf result ShelfWrite.Failed → Rose self.old.write_faults self.new.write_faults }
+        ensures denied { IsErrOf result ShelfWrite.Memory → Rose self.old.denials self.new.denials }
+        ensures counts { (self.old.write_faults ≤ self.new.write_faults) × (self.old.denials ≤ self.new.denials) }
+        ensures others { self.new ≡ record self.old { write_faults = self.new.write_faults; denials = self.new.denials } }
     {
+        if kind == ErrorKind::OutOfMemory {
+            self.denials = self.denials.saturating_add(1);
+            return Err(ShelfWrite::Memory);
+        }
         self.write_faults = self.write_faults.saturating_add(1);
         Err(ShelfWrite::Failed)
     }
@@ -154,16 +184,14 @@ impl<R: Files> Shelf for DiskShelf<'_, R> {
     }
 
     fn write(&mut self, name: &str, bytes: &[u8]) -> Result<(), ShelfWrite> {
-        if self.is_source(name) {
-            return self.refuse();
+        match self.is_source(name) {
+            Ok(false) => {}
+            Ok(true) => return self.fail(ErrorKind::PermissionDenied),
+            Err(kind) => return self.fail(kind),
         }
         match fs::write(self.rt, name, bytes) {
             Ok(()) => Ok(()),
-            Err(error) if error.kind() == ErrorKind::OutOfMemory => {
-                self.denials = self.denials.saturating_add(1);
-                Err(ShelfWrite::Memory)
-            }
-            Err(_) => self.refuse(),
+            Err(error) => self.fail(error.kind()),
         }
     }
 }

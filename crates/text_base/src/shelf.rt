@@ -42,7 +42,7 @@ pub trait Shelf {
     /// How many writes have wanted memory.
     ghost denials: { Self → ℕ };
 
-    /// No call fails.
+    /// No call counts a fault.
     ghost reliable: { Self → Type 0 };
 
     /// Appends the whole bytes of the name. It holds what it held, whatever the answer is. `Missing`: there is no file of the
@@ -55,6 +55,7 @@ pub trait Shelf {
         ensures missing { IsErrOf result ShelfRead.Missing → LacksFile (held self.old) name.now × (into.new.items ≡ into.old.items) }
         ensures absent { IsErrOf result ShelfRead.Missing → Rose (absences self.old) (absences self.new) }
         ensures failed { IsErrOf result ShelfRead.Failed → Rose (read_faults self.old) (read_faults self.new) }
+        ensures still { OnOk result ((read_faults self.new ≡ read_faults self.old) × (absences self.new ≡ absences self.old)) }
         ensures read_count { read_faults self.old ≤ read_faults self.new }
         ensures absence_count { absences self.old ≤ absences self.new }
         ensures write_count { write_faults self.new ≡ write_faults self.old }
@@ -68,6 +69,7 @@ pub trait Shelf {
         ensures others { OnErr result (SameBut name.now (held self.old) (held self.new)) }
         ensures failed { IsErrOf result ShelfWrite.Failed → Rose (write_faults self.old) (write_faults self.new) }
         ensures denied { IsErrOf result ShelfWrite.Memory → Rose (denials self.old) (denials self.new) }
+        ensures still { OnOk result ((write_faults self.new ≡ write_faults self.old) × (denials self.new ≡ denials self.old)) }
         ensures write_count { write_faults self.old ≤ write_faults self.new }
         ensures denial_count { denials self.old ≤ denials self.new }
         ensures read_count { read_faults self.new ≡ read_faults self.old }

@@ -26,7 +26,7 @@ pub trait Sink {
     /// How many calls have wanted memory.
     ghost denials: { Self → ℕ };
 
-    /// No call fails.
+    /// No call counts a fault.
     ghost reliable: { Self → Type 0 };
 
     /// Appends a first part of the piece, and answers its length in bytes. `Failed`: a fault, which is counted. `Memory`: memory
@@ -38,6 +38,7 @@ pub trait Sink {
         ensures failed { IsErrOf result SinkError.Failed → Rose (faults self.old) (faults self.new) }
         ensures stuck { result ≡ Ok 0 → 0 < length piece.now → Rose (faults self.old) (faults self.new) }
         ensures denied { IsErrOf result SinkError.Memory → Rose (denials self.old) (denials self.new) }
+        ensures still { IfOk result (λ count. (0 < count → faults self.new ≡ faults self.old) × (denials self.new ≡ denials self.old)) }
         ensures count { faults self.old ≤ faults self.new }
         ensures denial_count { denials self.old ≤ denials self.new }
         ensures reliable { reliable self.old → reliable self.new × (faults self.new ≡ faults self.old) };

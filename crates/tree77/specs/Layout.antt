@@ -1,4 +1,4 @@
--- Where the variables of a program stand in storage sequences (X3.9 section 2.11).
+-- Where the variables of a program stand in storage sequences (X3.9 section 2.13).
 use Rattle.std.specs.Prelude.{ℕ, ◌+◌, Bool, false, ◌&&◌, ◌==◌, List, [], ◌∷◌, ◌++◌, map, take, sum_by, Option, Some, None, if◌then◌else◌}
 use Rattle.std.specs.List.{enumerate_from}
 use Rattle.std.specs.Str.{bytes_eq}

@@ -29,6 +29,12 @@ refused_sources =
     -- a continuation line before any initial line, and behind a comment
     ∷ (codes "     1 I = 1\n" ++ codes "      END\n", at 1 ContinuationFirst (codes "6") ∷ [])
     ∷ (codes "C     C\n" ++ codes "     1 I = 1\n", at 2 ContinuationFirst (codes "6") ∷ [])
+    -- behind a refused initial line the statement before it goes on: in an open constant, and in a text that nH keeps; and where
+    -- there is none, one without characters
+    ∷ (program_with (codes "      I = 'A\n" ++ codes "1A    J = 1\n" ++ codes "     1" ++ 233 ∷ codes "\n"), at 3 BadLabelField (codes "2") ∷ [])
+    ∷ (program_with (codes "   10 FORMAT(70H\n" ++ codes "1A    J = 1\n" ++ codes "     1" ++ 233 ∷ codes "\n"), at 3 BadLabelField (codes "2") ∷ [])
+    ∷ (program_with (codes "   10 FORMAT(56H\n" ++ codes "1A    J = 1\n" ++ codes "     1" ++ 233 ∷ codes "\n"), at 3 BadLabelField (codes "2") ∷ at 4 BadCharacter (codes "7") ∷ [])
+    ∷ (codes "1A    J = 1\n" ++ codes "     1 + 1\n", at 1 BadLabelField (codes "2") ∷ [])
     -- the byte 31 outside a constant; a tab inside one, in column 6, and behind column 72
     ∷ (program_with (codes "      I =" ++ 31 ∷ codes "1\n"), at 2 BadCharacter (codes "10") ∷ [])
     ∷ (program_with (codes "      C = '\t'\n"), at 2 BadCharacter (codes "12") ∷ [])
