@@ -3,7 +3,7 @@ use Rattle.std.proofs.Common.{◌≡◌, inl, inr, ℕ, zero, suc, ◌<◌, List
 use Rattle.std.specs.Prelude.{slice_get}
 use Rattle.std.proofs.lemmas.List.{length-set}
 use Rattle.std.proofs.lemmas.List.Elements.{All-get_or, All-set, All-weaker, Contains-append_left, Contains-append_right, Contains-append_cases}
-use Rattle.std.proofs.lemmas.Option.{slice_get-get_or, slice_get_within, get_or_from_slice_get}
+use Rattle.std.proofs.lemmas.Option.{slice_get-get_or}
 use Rattle.text_base.specs.Trees.{Expr, Action, assign, stop}
 use Rattle.text_base.specs.Names.{expr_names, action_names}
 use Rattle.text_base.specs.Values.{Value, integer, Held, undefined, held, integer_in, RunFault, Undefined, Overflow}
@@ -22,12 +22,9 @@ use Rattle.definition_laws.specs.Statements.{actions_of}
 use Rattle.definition_laws.specs.Faults.{FaultsBy, ReadsUndefined, Overflows, IsPlain, IsStoreOf}
 use Rattle.definition_laws.proofs.Evaluating.{result, undefined_name, overflowing}
 use Rattle.definition_laws.proofs.Acting.{IsEvaluated, Acts, acts}
+use Rattle.definition_laws.proofs.Places.{in_the_list}
 use Rattle.definition_laws.proofs.NameOrder.{only_of, seen}
 use Rattle.definition_laws.proofs.StorageLemmas.{one_entity, within, start_undefined}
-
--- what stands at a place of a list is in it
-in_list : {X : Type 0} (xs : List X) (i : ℕ) (x : X) → slice_get xs i ≡ Some x → Contains xs x
-in_list xs i x at = (i, slice_get_within xs i x at, get_or_from_slice_get xs i x x at)
 
 -- the names of a statement are among those of its list
 named : (c : Code) (here : Place) (d x : Expr) (y : List ℕ) → Contains (actions_of c) (here, assign d x) → Contains (expr_names x) y → Contains (code_names c) y
@@ -198,7 +195,7 @@ module _ (p : SourceProgram) where
             earlier = r.earlier;
             store = r.store;
             reached = ap (λ o. run_main layout o r.before) at ∙ ap (λ o. close o flat.stop_at_end) r.reached;
-            cause = cause u r.store r.variable r.value at (in_list (actions_of u.code) r.before (here, assign r.variable r.value) r.stands) r.good r.faulted;
+            cause = cause u r.store r.variable r.value at (in_the_list (actions_of u.code) r.before (here, assign r.variable r.value) r.stands) r.good r.faulted;
           }
 
   -- what can't be read holds nothing

@@ -7,3 +7,4 @@ pub mod Faults
 pub mod Texts
 pub mod AcceptedFiles
 pub mod AcceptedLines
+pub mod Printing

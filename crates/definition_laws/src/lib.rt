@@ -6,6 +6,7 @@ mod faults;
 mod files_accepted;
 mod lines;
 mod lines_accepted;
+mod printing;
 mod runs;
 mod storage;
 mod texts;
@@ -21,6 +22,7 @@ pub use faults::{
 pub use files_accepted::files_are_accepted;
 pub use lines::{a_file_is_its_lines, columns_are_bytes};
 pub use lines_accepted::lines_are_accepted;
+pub use printing::owed_lines_are_whole;
 pub use runs::{source_runs_are_steady, written_runs_are_steady};
 pub use storage::{
     a_store_keeps_what_is_defined, each_variable_has_a_line, each_variable_has_a_place,

@@ -12,3 +12,5 @@ pub mod KeptText
 pub mod Wrong
 pub mod FreeForm
 pub mod Printed
+pub mod Skeletons
+pub mod Commands

@@ -1,7 +1,7 @@
 // The limits and the causes, each with its number.
 ghost use Rattle.std.specs.Prelude.{◌≡◌};
 ghost use Rattle.text_base.specs.Causes.{cause_number, cause_text};
-ghost use Rattle.text_base.specs.declared.limits.TheConstants.{LARGEST_FILE, LARGEST_PROJECT, LONGEST_LINE, LAST_COLUMN, MOST_CONTINUED, LONGEST_NAME, GREATEST_INTEGER, DEEPEST_NESTING, LONGEST_WRITTEN, MOST_SHOWN};
+ghost use Rattle.text_base.specs.declared.limits.TheConstants.{LARGEST_FILE, LARGEST_PROJECT, LONGEST_LINE, LAST_COLUMN, MOST_CONTINUED, LONGEST_NAME, GREATEST_COUNT, GREATEST_INTEGER, DEEPEST_NESTING, LONGEST_WRITTEN, MOST_INDENTED, MOST_SHOWN};
 ghost use Rattle.worked_examples.specs.Causes.{causes};
 ghost use Rattle.worked_examples.specs.Tables.{Gives};
 
@@ -13,9 +13,11 @@ pub fn limits()
     ensures column { LAST_COLUMN ≡ 72 }
     ensures continued { MOST_CONTINUED ≡ 99 }
     ensures name { LONGEST_NAME ≡ 31 }
+    ensures count { GREATEST_COUNT ≡ 4294967295 }
     ensures integer { GREATEST_INTEGER ≡ 2147483647 }
     ensures nesting { DEEPEST_NESTING ≡ 200 }
     ensures written { LONGEST_WRITTEN ≡ 132 }
+    ensures indented { MOST_INDENTED ≡ 60 }
     ensures shown { MOST_SHOWN ≡ 12 }
 {}
 
