@@ -2,7 +2,7 @@
 use Rattle.std.proofs.Common.{◌≡◌, ◌≢◌, ◌⊎◌, ℕ, zero, suc, ◌-◌, ◌<◌, ◌≤◌, min, Bool, true, false, ◌==◌, List, [], ◌∷◌, ◌++◌, length, take, drop, slice_index, None, refl, sym, ap, ◌∙◌, subst, inl, inr, append-nil, length-append, length-take, take-append-drop, arith}
 use Rattle.std.specs.Str.Parse.{digits_value}
 use Rattle.std.proofs.lemmas.Bool.{eqb-true, eqb-false, cases_lt}
-use Rattle.text_base.specs.Kept.{is_format, is_h, last_digits, IsPlain, IsInside, inside_nothing, inside_other, inside_doubled, nothing_kept, all_kept, IsMarked, marked_plain, marked_constant, marked_open, marked_count, count_or_none, marks_from, kept}
+use Rattle.text_base.specs.Kept.{is_format, is_h, last_digits, count_before, IsPlain, IsInside, inside_nothing, inside_other, inside_doubled, nothing_kept, all_kept, IsMarked, marked_plain, marked_constant, marked_open, marked_count, count_or_none, marks_from, kept}
 use Rattle.card_reader.proofs.LastDigits.{most, count_of}
 use Rattle.card_reader.proofs.ScanSteps.{plain_state, constant_state, keeping_state, opens, h_step, inside_marks, keeping_marks}
 use Rattle.card_reader.proofs.PlainText.{plain_marks, quiet_plain, First, nowhere, at_apostrophe, at_count, first}
@@ -39,28 +39,27 @@ pub counted : (ds : List ℕ) → ds ≢ [] → count_or_none (count_of ds) ≡ 
 counted [] some = absurd (some refl)
 counted (d ∷ ds) some = refl
 
--- the cap is no less than what is kept
-kept_count : (f : Bool) (inside rest : List ℕ) (n : ℕ) → length inside < most → IsCounted inside rest n
-    → marks_from (keeping_state f (min n most)) (inside ++ rest) ≡ all_kept inside ++ marks_of f rest
-kept_count f inside rest n short (inl whole) =
-    let none : min n most - length inside ≡ 0 = omega (arith, short, whole) in
-    keeping_marks f inside rest (min n most) (omega (arith, short, whole))
+-- as many characters as are kept
+kept_count : (f : Bool) (inside rest : List ℕ) (n : ℕ) → IsCounted inside rest n → marks_from (keeping_state f n) (inside ++ rest) ≡ all_kept inside ++ marks_of f rest
+kept_count f inside rest n (inl whole) =
+    let none : n - length inside ≡ 0 = omega (arith, whole) in
+    keeping_marks f inside rest n (omega (arith, whole))
     ∙ ap (λ k. all_kept inside ++ marks_from (keeping_state f k) rest) none
-kept_count f inside rest n short (inr cut) =
-    keeping_marks f inside rest (min n most) (omega (arith, short, cut.0))
-    ∙ ap (λ (xs : List ℕ). all_kept inside ++ marks_from (keeping_state f (min n most - length inside)) xs) cut.1
+kept_count f inside rest n (inr cut) =
+    keeping_marks f inside rest n cut.0
+    ∙ ap (λ (xs : List ℕ). all_kept inside ++ marks_from (keeping_state f (n - length inside)) xs) cut.1
     ∙ ap (λ (xs : List ℕ). all_kept inside ++ marks_of f xs) (sym cut.1)
 
 count_marks : (f : Bool) (plain : List ℕ) (h : ℕ) (inside rest : List ℕ) → f ≡ true → IsPlain f plain → last_digits plain ≢ [] → is_h h ≡ true
-    → IsCounted inside rest (digits_value 10 (last_digits plain)) → length inside < most
+    → IsCounted inside rest (count_before plain)
     → marks_of f (plain ++ h ∷ (inside ++ rest)) ≡ nothing_kept plain ++ 0 ∷ (all_kept inside ++ marks_of f rest)
-count_marks f plain h inside rest is is_plain some letter counts short =
+count_marks f plain h inside rest is is_plain some letter counts =
     plain_marks f plain (h ∷ (inside ++ rest)) is_plain
     ∙ ap (λ (ms : List ℕ). nothing_kept plain ++ ms)
     (subst (λ g. marks_from (plain_state g (count_of (last_digits plain))) (h ∷ (inside ++ rest)) ≡ 0 ∷ marks_from (keeping_state g (count_or_none (count_of (last_digits plain)))) (inside ++ rest)) (sym is)
     (h_step (count_of (last_digits plain)) h (inside ++ rest) letter))
     ∙ ap (λ n. nothing_kept plain ++ 0 ∷ marks_from (keeping_state f n) (inside ++ rest)) (counted (last_digits plain) some)
-    ∙ ap (λ (ms : List ℕ). nothing_kept plain ++ 0 ∷ ms) (kept_count f inside rest (digits_value 10 (last_digits plain)) short counts)
+    ∙ ap (λ (ms : List ℕ). nothing_kept plain ++ 0 ∷ ms) (kept_count f inside rest (count_before plain) counts)
 
 -- ---- lengths of pieces
 
@@ -72,25 +71,19 @@ inner_no_longer inside rest = let whole = length-append inside rest in (omega (a
 
 -- ---- no others
 
-only_marks : (f : Bool) (text marks : List ℕ) → length text < most → IsMarked f text marks → marks ≡ marks_of f text
-only_marks f text marks short (marked_plain plain m) = m ∙ sym (only_plain f text plain)
-only_marks f text marks short (marked_constant {rest = rest} {more = more} plain inside is_plain is_inside ends t next m) =
-    let long = ap length t in
-    let after = rest_shorter plain 39 (inside ++ 39 ∷ rest) in
-    let behind = rest_shorter inside 39 rest in
+only_marks : (f : Bool) (text marks : List ℕ) → IsMarked f text marks → marks ≡ marks_of f text
+only_marks f text marks (marked_plain plain m) = m ∙ sym (only_plain f text plain)
+only_marks f text marks (marked_constant {rest = rest} {more = more} plain inside is_plain is_inside ends t next m) =
     m
-    ∙ ap (λ (ms : List ℕ). nothing_kept plain ++ 1 ∷ (all_kept inside ++ 1 ∷ ms)) (only_marks f rest more (omega (arith, short, long, after, behind)) next)
+    ∙ ap (λ (ms : List ℕ). nothing_kept plain ++ 1 ∷ (all_kept inside ++ 1 ∷ ms)) (only_marks f rest more next)
     ∙ sym (constant_marks f plain inside rest is_plain is_inside)
     ∙ ap (marks_of f) (sym t)
-only_marks f text marks short (marked_open plain inside is_plain is_inside t m) =
+only_marks f text marks (marked_open plain inside is_plain is_inside t m) =
     m ∙ sym (open_marks f plain inside is_plain is_inside) ∙ ap (marks_of f) (sym t)
-only_marks f text marks short (marked_count {rest = rest} {more = more} plain h inside is is_plain some letter counts t next m) =
-    let long = ap length t in
-    let after = rest_shorter plain h (inside ++ rest) in
-    let inner = inner_no_longer inside rest in
+only_marks f text marks (marked_count {rest = rest} {more = more} plain h inside is is_plain some letter counts t next m) =
     m
-    ∙ ap (λ (ms : List ℕ). nothing_kept plain ++ 0 ∷ (all_kept inside ++ ms)) (only_marks f rest more (omega (arith, short, long, after, inner.1)) next)
-    ∙ sym (count_marks f plain h inside rest is is_plain some letter counts (omega (arith, short, long, after, inner.0)))
+    ∙ ap (λ (ms : List ℕ). nothing_kept plain ++ 0 ∷ (all_kept inside ++ ms)) (only_marks f rest more next)
+    ∙ sym (count_marks f plain h inside rest is is_plain some letter counts)
     ∙ ap (marks_of f) (sym t)
 
 -- ---- those of its pieces
@@ -137,40 +130,40 @@ after_apostrophe f text plain rest is_plain e later (ends_after inside behind in
     let shorter = rest_shorter inside 39 behind in
     marked_constant plain inside is_plain inner apart whole (later behind (omega (arith, long, after, shorter))) (ap (marks_of f) whole ∙ constant_marks f plain inside behind is_plain inner)
 
-after_count : (f : Bool) (text plain : List ℕ) (h : ℕ) (inside rest : List ℕ) → length text < most → f ≡ true → IsPlain f plain → last_digits plain ≢ [] → is_h h ≡ true
-    → IsCounted inside rest (digits_value 10 (last_digits plain)) → text ≡ plain ++ h ∷ (inside ++ rest) → AreMarkedBehind f text → IsMarked f text (marks_of f text)
-after_count f text plain h inside rest short is is_plain some letter counts e later =
+after_count : (f : Bool) (text plain : List ℕ) (h : ℕ) (inside rest : List ℕ) → f ≡ true → IsPlain f plain → last_digits plain ≢ [] → is_h h ≡ true
+    → IsCounted inside rest (count_before plain) → text ≡ plain ++ h ∷ (inside ++ rest) → AreMarkedBehind f text → IsMarked f text (marks_of f text)
+after_count f text plain h inside rest is is_plain some letter counts e later =
     let long = ap length e in
     let after = rest_shorter plain h (inside ++ rest) in
     let inner = inner_no_longer inside rest in
     marked_count plain h inside is is_plain some letter counts e (later rest (omega (arith, long, after, inner.1)))
-    (ap (marks_of f) e ∙ count_marks f plain h inside rest is is_plain some letter counts (omega (arith, short, long, after, inner.0)))
+    (ap (marks_of f) e ∙ count_marks f plain h inside rest is is_plain some letter counts)
 
-by_first : (f : Bool) (text : List ℕ) → length text < most → AreMarkedBehind f text → First f [] text → IsMarked f text (marks_of f text)
-by_first f text short later (nowhere quiet) = let is_plain = quiet_plain f text quiet in marked_plain is_plain (only_plain f text is_plain)
-by_first f text short later (at_apostrophe plain rest quiet e) = after_apostrophe f text plain rest (quiet_plain f plain quiet) e later (ends rest)
-by_first f text short later (at_count plain h rest is quiet some letter e) = go (cases_lt (length rest) n)
+by_first : (f : Bool) (text : List ℕ) → AreMarkedBehind f text → First f [] text → IsMarked f text (marks_of f text)
+by_first f text later (nowhere quiet) = let is_plain = quiet_plain f text quiet in marked_plain is_plain (only_plain f text is_plain)
+by_first f text later (at_apostrophe plain rest quiet e) = after_apostrophe f text plain rest (quiet_plain f plain quiet) e later (ends rest)
+by_first f text later (at_count plain h rest is quiet some letter e) = go (cases_lt (length rest) n)
   where
     n : ℕ
-    n = digits_value 10 (last_digits plain)
+    n = count_before plain
 
     go : (length rest < n) ⊎ (n ≤ length rest) → IsMarked f text (marks_of f text)
     go (inl less) =
-        after_count f text plain h rest [] short is (quiet_plain f plain quiet) some letter (inr (omega (arith, less), refl))
+        after_count f text plain h rest [] is (quiet_plain f plain quiet) some letter (inr (omega (arith, less), refl))
         (e ∙ ap (λ (xs : List ℕ). plain ++ h ∷ xs) (sym (append-nil rest))) later
     go (inr enough) =
         let cut = length-take n rest in
-        after_count f text plain h (take n rest) (drop n rest) short is (quiet_plain f plain quiet) some letter (inl (omega (arith, cut, enough)))
+        after_count f text plain h (take n rest) (drop n rest) is (quiet_plain f plain quiet) some letter (inl (omega (arith, cut, enough)))
         (e ∙ ap (λ (xs : List ℕ). plain ++ h ∷ xs) (sym (take-append-drop n rest))) later
 
-up_to : (f : Bool) (n : ℕ) (text : List ℕ) → length text ≤ n → length text < most → IsMarked f text (marks_of f text)
-up_to f zero text le short = by_first f text short (λ rest less. absurd (omega (arith, le, less))) (first f [] text)
-up_to f (suc n) text le short = by_first f text short (λ rest less. up_to f n rest (omega (arith, le, less)) (omega (arith, short, less))) (first f [] text)
+up_to : (f : Bool) (n : ℕ) (text : List ℕ) → length text ≤ n → IsMarked f text (marks_of f text)
+up_to f zero text le = by_first f text (λ rest less. absurd (omega (arith, le, less))) (first f [] text)
+up_to f (suc n) text le = by_first f text (λ rest less. up_to f n rest (omega (arith, le, less))) (first f [] text)
 
 -- ---- statements
 
-pub marked : (label : ℕ) (text : List ℕ) → length text < most → IsMarked (is_format label text) text (kept label text)
-marked label text short = subst (IsMarked (is_format label text) text) (sym (by_flag label text)) (up_to (is_format label text) (length text) text (omega arith) short)
+pub marked : (label : ℕ) (text : List ℕ) → IsMarked (is_format label text) text (kept label text)
+marked label text = subst (IsMarked (is_format label text) text) (sym (by_flag label text)) (up_to (is_format label text) (length text) text (omega arith))
 
-pub only : (label : ℕ) (text marks : List ℕ) → length text < most → IsMarked (is_format label text) text marks → marks ≡ kept label text
-only label text marks short m = only_marks (is_format label text) text marks short m ∙ sym (by_flag label text)
+pub only : (label : ℕ) (text marks : List ℕ) → IsMarked (is_format label text) text marks → marks ≡ kept label text
+only label text marks m = only_marks (is_format label text) text marks m ∙ sym (by_flag label text)

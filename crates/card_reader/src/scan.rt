@@ -1,5 +1,5 @@
 // Kept text: the characters of a statement that are read as they stand (X3.9 sections 4.8 and 13.5.2).
-ghost use Rattle.std.specs.Prelude.{◌≡◌, ◌==◌, not, true, replicate};
+ghost use Rattle.std.specs.Prelude.{◌≡◌, ◌==◌, not, true, false, replicate};
 ghost use Rattle.text_base.specs.Chars.{is_digit};
 ghost use Rattle.text_base.specs.Kept as kept;
 ghost use Rattle.card_reader.specs.Scan.{scan_of};
@@ -31,6 +31,18 @@ impl Scan {
     {
         Scan {
             matched: if label == 0 { 8 } else { 0 },
+            inside: false,
+            left: 0,
+            count: None,
+        }
+    }
+
+    /// Behind the keyword of a FORMAT and its parenthesis (X3.9 section 13.1).
+    pub fn in_format() -> Scan
+        ensures { scan_of result ≡ record { matched = 7; inside = false; left = 0; count = None } }
+    {
+        Scan {
+            matched: 7,
             inside: false,
             left: 0,
             count: None,

@@ -1,6 +1,6 @@
 -- Nothing is refused of a file where it is the source of a program that is converted.
 use Rattle.std.proofs.Common.{◌≡◌, ◌↔◌, ◌∙◌, sym, ap, subst, refl, ℕ, Bool, true, false, not, cond, ◌&&◌, List, [], ◌∷◌, length, map, filter, Option, Some, None, arith}
-use Rattle.std.specs.Prelude.{nat_lt, if◌then◌else◌}
+use Rattle.std.specs.Prelude.{nat_lt, ◌==◌, ◌++◌, if◌then◌else◌}
 use Rattle.std.specs.List.{list_all}
 use Rattle.std.specs.Option.{option_and_then, option_map}
 use Rattle.std.proofs.lemmas.Bool.{and_from, and_parts, leb-true, le-leb}
@@ -14,25 +14,28 @@ use Rattle.text_base.specs.Names.{action_names}
 use Rattle.text_base.specs.Trees.{Expr, int, name, unary, binary, Action, assign, stop}
 use Rattle.text_base.specs.declared.refusal.Place.{Place}
 use Rattle.text_base.specs.declared.refusal.Refusal.{Refusal}
-use Rattle.tree77.specs.Source.{SpellsCard, IsSource}
-use Rattle.tree77.specs.Spelling.{Statement, program, action, continue, end}
+use Rattle.tree77.specs.Source.{SpellsBuilt, IsSource}
+use Rattle.tree77.specs.Spelling.{Built, program, action, continue, end_of_unit}
 use Rattle.tree77.specs.Tree as tree
 use Rattle.tree77.specs.Tree.{Code, done, item, SourceUnit, SourceProgram}
 use Rattle.tree77.specs.Typing.{code_names, is_variable, is_typed}
-use Rattle.parse77.specs.Reading.{read_card, read_of, file_statements, Ended, ended_at, join_code, read_code, unit_with, read_unit, typed_unit, unless_refused, read_source}
+use Rattle.parse77.specs.SourceReading.{read_card, read_of, file_statements, Ended, ended_at, join_code, read_code, unit_with, read_unit, typed_unit, unless_refused, read_source}
+use Rattle.parse77.specs.Reading as reading
+use Rattle.parse77.specs.Reading.{Outcome, card_outcome, built_in}
+use Rattle.parse77.specs.Statement.{refusals_by, refusals_of}
 use Rattle.parse77.specs.Unit.{header_name}
-use Rattle.project_set.specs.Refusals.{program_name, is_built_operand, is_built, is_built_action, is_short, is_built_statement, is_built_as, is_built_card, not_built_at, statement_refusals, unit_refusals, first_of, refusals}
+use Rattle.project_set.specs.Refusals.{program_name, is_built_operand, is_built, is_built_action, is_short, is_built_statement, is_built_as, is_built_card, not_built_at, statement_refusals, unbuilt_refusals, unit_refusals, first_of, source_refusals, refusals}
 use Rattle.definition_laws.specs.AcceptedFiles.{IsTerm, constant, variable, IsSumOfTerms, one_term, signed_term, more_terms, IsConverted, converted_assign, converted_stop, AreConverted, IsBuiltProgram, CardsAreSpelled, FilesAreSources}
 use Rattle.definition_laws.proofs.AcceptedFaults.{after, beside, along}
 
 -- ---- cards
 
-pub cards_are_spelled : ((card : Card) (s : Statement) → read_card card ≡ Some s → SpellsCard card s)
-    → ((card : Card) (s : Statement) → SpellsCard card s → read_card card ≡ Some s) → CardsAreSpelled
+pub cards_are_spelled : ((card : Card) (s : Built) → read_card card ≡ Some s → SpellsBuilt card s)
+    → ((card : Card) (s : Built) → SpellsBuilt card s → read_card card ≡ Some s) → CardsAreSpelled
 cards_are_spelled found only unit card =
     (λ e. go (read_card card) refl e, λ h. subst (λ o. is_built_as unit o ≡ true) (sym (only card h.0 h.1)) h.2)
   where
-    go : (o : Option Statement) → read_card card ≡ o → is_built_as unit o ≡ true → (s : Statement) × SpellsCard card s × (is_built_as unit (Some s) ≡ true)
+    go : (o : Option Built) → read_card card ≡ o → is_built_as unit o ≡ true → (s : Built) × SpellsBuilt card s × (is_built_as unit (Some s) ≡ true)
     go None is e = absurd cc
     go (Some s) is e = (s, found card s is, e)
 
@@ -112,14 +115,14 @@ list_reads : (x : List ℕ) (cs : List Card) (r : Ended) → read_code (map read
 list_reads x [] r e = absurd cc
 list_reads x (card ∷ rest) r e = go (read_card card) e (list_reads x rest)
   where
-    go : (o : Option Statement) → option_and_then (λ s. join_code card.place s (map read_of rest) (read_code (map read_of rest))) o ≡ Some r
+    go : (o : Option Built) → option_and_then (λ s. join_code card.place s (map read_of rest) (read_code (map read_of rest))) o ≡ Some r
         → ((q : Ended) → read_code (map read_of rest) ≡ Some q → list_all (is_built_card (Some x)) rest ≡ code_built x q.0)
         → (is_built_as (Some x) o && list_all (is_built_card (Some x)) rest) ≡ code_built x r.0
     go None e more = absurd cc
     go (Some (program y)) e more = absurd cc
     go (Some (action a)) e more = joined x card.place (tree.simple a) _ (read_code (map read_of rest)) r e more
     go (Some continue) e more = joined x card.place tree.continue _ (read_code (map read_of rest)) r e more
-    go (Some end) e more = last x card.place rest r e
+    go (Some end_of_unit) e more = last x card.place rest r e
 
 -- so can a unit
 headed : (x : List ℕ) (here : Place) (b : Bool) (o : Option Ended) (u : SourceUnit) → unit_with here (program x) o ≡ Some u → ((q : Ended) → o ≡ Some q → b ≡ code_built x q.0)
@@ -133,7 +136,7 @@ unit_reads : (cs : List Card) (u : SourceUnit) → read_unit (map read_of cs) �
 unit_reads [] u e = absurd cc
 unit_reads (card ∷ rest) u e = go (read_card card) e
   where
-    go : (o : Option Statement) → option_and_then (λ s. unit_with card.place s (read_code (map read_of rest))) o ≡ Some u
+    go : (o : Option Built) → option_and_then (λ s. unit_with card.place s (read_code (map read_of rest))) o ≡ Some u
         → (is_built_as (option_and_then header_name o) o && list_all (is_built_card (option_and_then header_name o)) rest) ≡ code_built u.name u.code
     go (Some (program x)) e = headed x card.place _ (read_code (map read_of rest)) u e (list_reads x rest)
     go o e = absurd cc
@@ -167,11 +170,33 @@ no_unit : (o : Option SourceUnit) → (unit_refusals 0 o ≡ []) ↔ ((u : Sourc
 no_unit None = (λ e. absurd cc, λ h. absurd (let e = h.1 in cc))
 no_unit (Some u) = (λ e. (u, refl), λ h. refl)
 
+-- what is converted isn't refused
+not_refused : (unit : Option (List ℕ)) (card : Card) → is_built_card unit card ≡ true → refusals_of card ≡ []
+not_refused unit card built = go (card_outcome card) (card.label == 0) built
+  where
+    go : (o : Outcome) (b : Bool) → is_built_as unit (if b then built_in o else None) ≡ true → refusals_by card.place o ≡ []
+    go (reading.accepted x) b e = refl
+    go (reading.rejected p) true e = absurd cc
+    go (reading.rejected p) false e = absurd cc
+
+none_refused : (unit : Option (List ℕ)) (cs : List Card) → list_all (is_built_card unit) cs ≡ true → statement_refusals cs ≡ []
+none_refused unit [] e = refl
+none_refused unit (card ∷ cs) e =
+    let b = and_parts (is_built_card unit card) (list_all (is_built_card unit) cs) e in
+    ap (λ rs. rs ++ statement_refusals cs) (not_refused unit card b.0) ∙ none_refused unit cs b.1
+
+-- where all statements are converted, none is refused by itself
+all_accepted : (unit : Option (List ℕ)) (cs : List Card) (X : Type 0) → ((statement_refusals cs ≡ []) × ((list_all (is_built_card unit) cs ≡ true) × X)) ↔ ((list_all (is_built_card unit) cs ≡ true) × X)
+all_accepted unit cs X = (λ h. h.1, λ h. (none_refused unit cs h.0, h))
+
 phases : (bytes : List ℕ) → (refusals bytes ≡ [])
     ↔ ((card_refusals 0 bytes ≡ []) × ((list_all (is_built_card (program_name (file_statements 0 bytes))) (cards 0 bytes) ≡ true) × ((u : SourceUnit) × (read_unit (file_statements 0 bytes) ≡ Some u))))
 phases bytes =
+    let unit = program_name (file_statements 0 bytes) in
+    let same : statement_refusals (cards 0 bytes) ≡ [] → statement_refusals (cards 0 bytes) ≡ [] = λ e. e in
     after (no_first (files_refusals 0 0 (bytes ∷ [])) _) (beside (along (one_file bytes))
-    (after (no_first (statement_refusals (cards 0 bytes)) _) (beside (no_statement (is_built_card (program_name (file_statements 0 bytes))) (cards 0 bytes)) (no_unit _))))
+    (after (no_first (statement_refusals (cards 0 bytes)) _)
+    (after (beside (same, same) (after (no_first (unbuilt_refusals (cards 0 bytes)) _) (beside (no_statement (is_built_card unit) (cards 0 bytes)) (no_unit _)))) (all_accepted unit (cards 0 bytes) _))))
 
 -- ---- programs
 

@@ -4,8 +4,8 @@ use Rattle.std.specs.List.{All}
 use Rattle.text_base.specs.Cards.{Card}
 use Rattle.text_base.specs.Trees.{UnaryOp, BinaryOp, Expr, int, name, unary, binary, Action, assign, stop}
 use Rattle.text_base.specs.declared.limits.TheConstants.{LONGEST_WRITTEN}
-use Rattle.tree77.specs.Source.{SpellsCard, IsSource}
-use Rattle.tree77.specs.Spelling.{Statement}
+use Rattle.tree77.specs.Source.{SpellsBuilt, IsSource}
+use Rattle.tree77.specs.Spelling.{Built}
 use Rattle.tree77.specs.Tree.{simple, continue, Code, done, item, SourceProgram}
 use Rattle.tree90.specs.Printed.{stmt_text}
 use Rattle.tree90.specs.Proper.{is_sign, is_additive}
@@ -44,7 +44,7 @@ IsBuiltProgram p = All (λ unit. AreConverted unit.code) p.units
 
 -- A card of a file is converted exactly where it spells a statement that is.
 abbrev pub CardsAreSpelled : Type 0
-CardsAreSpelled = (unit : Option (List ℕ)) (card : Card) → IsTrue (is_built_card unit card) ↔ ((s : Statement) × SpellsCard card s × IsTrue (is_built_statement unit s))
+CardsAreSpelled = (unit : Option (List ℕ)) (card : Card) → IsTrue (is_built_card unit card) ↔ ((b : Built) × SpellsBuilt card b × IsTrue (is_built_statement unit b))
 
 -- Nothing is refused of a file exactly where it is the source of a program whose statements are all converted.
 abbrev pub FilesAreSources : Type 0

@@ -8,10 +8,10 @@ use Rattle.text_base.specs.Trees.{Expr}
 use Rattle.text_base.specs.declared.limits.TheConstants.{MOST_SHOWN}
 use Rattle.text_base.specs.declared.refusal.Cause.TheVariants.{NotAStatement}
 use Rattle.text_base.proofs.Optional.{went, mapped}
-use Rattle.tree77.specs.Tokens.{Token, IsCut}
+use Rattle.tree77.specs.Tokens.{Token, IsCut, token_pieces}
 use Rattle.tree77.specs.Expressions.{Symbol, IsExpression}
-use Rattle.tree77.specs.Lexemes.{Lexeme, Part, symbol_of, parts_from, is_lower, first_lowest, IsWideExpression, SpellsExpression, IsRefusedExpression, refused_whole, refused_part}
-use Rattle.scan77.specs.TokenReading.{no_token, read_tokens}
+use Rattle.tree77.specs.Lexemes.{Lexeme, Part, symbol_of, parts_from, is_lower, first_lowest, AreLexemes, IsWideExpression, SpellsExpression, IsRefusedExpression, refused_whole, refused_part}
+use Rattle.scan77.specs.TokenReading.{no_token, read_tokens, AllFormed}
 use Rattle.group77.specs.Building.{build}
 use Rattle.expr77.specs.Gathering.{keep}
 use Rattle.expr77.specs.LexemeReading.{lexemes_of}
@@ -28,6 +28,12 @@ CutIsRead = (pieces : List Piece) (tokens : List Token) → IsCut pieces tokens 
 
 abbrev pub CutIsJoined : Type 0
 CutIsJoined = (pieces : List Piece) (tokens : List Token) → IsCut pieces tokens → flat_map (λ t. t.text) tokens ≡ flat_map piece_text pieces
+
+abbrev pub CutIsPieces : Type 0
+CutIsPieces = (pieces : List Piece) (tokens : List Token) → IsCut pieces tokens → pieces ≡ flat_map token_pieces tokens
+
+abbrev pub CutIsFormed : Type 0
+CutIsFormed = (pieces : List Piece) (tokens : List Token) → IsCut pieces tokens → AllFormed tokens
 
 abbrev pub TreeIsFound : Type 0
 TreeIsFound = (t : List Symbol) (x : Expr) → build t ≡ Some x → IsExpression t x
@@ -63,26 +69,37 @@ one_wide is_read is_only pieces lexemes others x y first second =
 
 -- ---- what is read of tokens
 
--- an expression that is read is spelled, and the lowest part is carried on
-pub read_found : TreeIsFound → (depth : ℕ) (lowest next : Option Part) (pieces : List Piece) (tokens : List Token) (x : Expr) → IsCut pieces tokens → expression_of depth lowest tokens ≡ Some (x, next)
-    → IsReadFrom depth lowest pieces x next
-read_found is_found depth lowest next pieces tokens x cut e =
+-- an expression that is read is spelled
+pub read_spelled : CutIsPieces → CutIsFormed → TreeIsFound → (pieces : List Piece) (tokens : List Token) (depth : ℕ) (lowest : Option Part) (x : Expr) (next : Option Part) → IsCut pieces tokens
+    → expression_of depth lowest tokens ≡ Some (x, next) → (lexemes : List Lexeme) × IsWideExpression pieces lexemes x × (next ≡ keep lowest (parts_from depth lexemes))
+read_spelled is_pieces is_formed is_found pieces tokens depth lowest x next cut e =
     let w = went (lexemes_of tokens) (tree_and_lowest depth lowest) (x, next) e in
     let m = mapped (build (map symbol_of w.from)) (λ x. (x, keep lowest (parts_from depth w.from))) (x, next) w.is in
     let tree : m.from ≡ x = ap (λ (p : Expr × Option Part). p.0) m.is in
-    let kept : keep lowest (parts_from depth w.from) ≡ next = ap (λ (p : Expr × Option Part). p.1) m.is in (
-      w.from,
-      record { spelled = lexemes_found pieces tokens w.from cut w.was; formed = subst (IsExpression (map symbol_of w.from)) tree (is_found (map symbol_of w.from) m.from m.was) },
-      λ before is. sym kept ∙ ap (λ k. keep k (parts_from depth w.from)) is ∙ keeps_on before (parts_from depth w.from),
-    )
+    let kept : keep lowest (parts_from depth w.from) ≡ next = ap (λ (p : Expr × Option Part). p.1) m.is in
+    let spelled = subst (λ (ps : List Piece). AreLexemes ps w.from) (sym (is_pieces pieces tokens cut)) (lexemes_found tokens w.from (is_formed pieces tokens cut) w.was) in
+    (w.from, record { spelled = spelled; formed = subst (IsExpression (map symbol_of w.from)) tree (is_found (map symbol_of w.from) m.from m.was) }, sym kept)
+
+-- and the lowest part is carried on
+pub read_found : CutIsPieces → CutIsFormed → TreeIsFound → (depth : ℕ) (lowest next : Option Part) (pieces : List Piece) (tokens : List Token) (x : Expr) → IsCut pieces tokens
+    → expression_of depth lowest tokens ≡ Some (x, next) → IsReadFrom depth lowest pieces x next
+read_found is_pieces is_formed is_found depth lowest next pieces tokens x cut e =
+    let r = read_spelled is_pieces is_formed is_found pieces tokens depth lowest x next cut e in
+    (r.0, r.1, λ before is. r.2 ∙ ap (λ k. keep k (parts_from depth r.0)) is ∙ keeps_on before (parts_from depth r.0))
+
+-- an expression that is spelled is read
+pub spelled_read : CutIsRead → TreeIsOnly → (pieces : List Piece) (tokens : List Token) (depth : ℕ) (lowest : Option Part) (lexemes : List Lexeme) (x : Expr) → IsCut pieces tokens
+    → IsWideExpression pieces lexemes x → expression_of depth lowest tokens ≡ Some (x, keep lowest (parts_from depth lexemes))
+spelled_read is_read is_only pieces tokens depth lowest lexemes x cut wide =
+    let here : lexemes_of tokens ≡ Some lexemes = wide_only is_read pieces tokens lexemes x cut wide in
+    let tree : build (map symbol_of lexemes) ≡ Some x = is_only (map symbol_of lexemes) x wide.formed in
+    rw (here, tree) refl
 
 -- where none is read, none is spelled
 pub read_none : CutIsRead → TreeIsOnly → (depth : ℕ) (lowest : Option Part) (pieces : List Piece) (tokens : List Token) → IsCut pieces tokens → expression_of depth lowest tokens ≡ None
     → (lexemes : List Lexeme) (x : Expr) → IsWideExpression pieces lexemes x → ⊥
 read_none is_read is_only depth lowest pieces tokens cut none lexemes x wide =
-    let here : lexemes_of tokens ≡ Some lexemes = wide_only is_read pieces tokens lexemes x cut wide in
-    let tree : build (map symbol_of lexemes) ≡ Some x = is_only (map symbol_of lexemes) x wide.formed in
-    let read : None ≡ Some (x, keep lowest (parts_from depth lexemes)) = sym none ∙ rw (here, tree) refl in
+    let read : ◌≡◌ {A = Option (Expr × Option Part)} None (Some (x, keep lowest (parts_from depth lexemes))) = sym none ∙ spelled_read is_read is_only pieces tokens depth lowest lexemes x cut wide in
     absurd cc
 
 -- ---- refused parts
@@ -111,25 +128,25 @@ same_accepted e = cc
 same_refused : {p q : Part} → refused p ≡ refused q → p ≡ q
 same_refused e = cc
 
-pub outcome_accepted : TreeIsFound → (pieces : List Piece) (tokens : List Token) (x : Expr) → IsCut pieces tokens → outcome_of tokens ≡ accepted x → SpellsExpression pieces x
-outcome_accepted is_found pieces tokens x cut = go (expression_of 0 None tokens) refl
+pub outcome_accepted : CutIsPieces → CutIsFormed → TreeIsFound → (pieces : List Piece) (tokens : List Token) (x : Expr) → IsCut pieces tokens → outcome_of tokens ≡ accepted x → SpellsExpression pieces x
+outcome_accepted is_pieces is_formed is_found pieces tokens x cut = go (expression_of 0 None tokens) refl
   where
     go : (o : Option (Expr × Option Part)) → expression_of 0 None tokens ≡ o → outcome_from tokens o ≡ accepted x → SpellsExpression pieces x
     go None read e = absurd cc
     go (Some (y, Some p)) read e = absurd cc
     go (Some (y, None)) read e =
-        let r = read_found is_found 0 None None pieces tokens y cut read in
+        let r = read_found is_pieces is_formed is_found 0 None None pieces tokens y cut read in
         record { lexemes = r.0; wide = subst (IsWideExpression pieces r.0) (same_accepted e) r.1; accepted = no_lowest (parts_from 0 r.0) (sym (r.2 [] refl)) }
 
-pub outcome_refused : CutIsRead → CutIsJoined → TreeIsFound → TreeIsOnly → (pieces : List Piece) (tokens : List Token) (p : Part) → IsCut pieces tokens → outcome_of tokens ≡ refused p → IsRefusedExpression pieces p
-outcome_refused is_read is_joined is_found is_only pieces tokens p cut = go (expression_of 0 None tokens) refl
+pub outcome_refused : CutIsPieces → CutIsFormed → CutIsRead → CutIsJoined → TreeIsFound → TreeIsOnly → (pieces : List Piece) (tokens : List Token) (p : Part) → IsCut pieces tokens → outcome_of tokens ≡ refused p → IsRefusedExpression pieces p
+outcome_refused is_pieces is_formed is_read is_joined is_found is_only pieces tokens p cut = go (expression_of 0 None tokens) refl
   where
     go : (o : Option (Expr × Option Part)) → expression_of 0 None tokens ≡ o → outcome_from tokens o ≡ refused p → IsRefusedExpression pieces p
     go None read e =
         refused_whole (read_none is_read is_only 0 None pieces tokens cut read) (sym (same_refused e) ∙ ap (λ text. record { cause = NotAStatement; shown = take MOST_SHOWN text }) (is_joined pieces tokens cut))
     go (Some (y, None)) read e = absurd cc
     go (Some (y, Some q)) read e =
-        let r = read_found is_found 0 None (Some q) pieces tokens y cut read in
+        let r = read_found is_pieces is_formed is_found 0 None (Some q) pieces tokens y cut read in
         refused_part r.0 y r.1 (sym (r.2 [] refl) ∙ ap Some (same_refused e))
 
 -- ---- one of each

@@ -10,12 +10,13 @@ use Rattle.text_base.specs.Pieces.{Piece, plain}
 use Rattle.text_base.specs.Pieces as piece
 use Rattle.text_base.specs.Trees.{power, times, over, add, subtract, concat, less, less_equal, equal, not_equal, greater, greater_equal, conjunction, disjunction, equivalence, nonequivalence}
 use Rattle.tree77.specs.Kinds.{is_word, is_number}
-use Rattle.tree77.specs.Tokens.{Token, TokenKind, run, digits, kept, mark, IsCut}
+use Rattle.tree77.specs.Tokens.{Token, TokenKind, run, digits, kept, mark}
 use Rattle.tree77.specs.Lexemes.{Lexeme, constant, logical, characters, name, alternate, operator, not_sign, opening, closing, comma, colon, is_label, IsQuoted, quoted_nothing, quoted_other, quoted_apostrophe, IsLexeme, lexeme_integer, lexeme_constant, lexeme_logical, lexeme_characters, lexeme_name, lexeme_alternate, lexeme_operator, lexeme_not, lexeme_open, lexeme_close, lexeme_comma, lexeme_colon, AreLexemes, lexemes_none, lexemes_more}
+use Rattle.scan77.specs.TokenReading.{IsFormed, AllFormed}
 use Rattle.text_base.proofs.Optional.{went, mapped}
 use Rattle.expr77.specs.LexemeReading as reading
 use Rattle.expr77.specs.LexemeReading.{Number, real, first_or_0, behind_mark, run_here, digits_here, read_number, behind_complex, behind_hollerith, Stand, is_after, is_argument, read_quoted, unless_empty, quoted_value, read_word, Found, lexeme_of_number, found_number, or_found, read_dotted, point_at, if_label, read_star, read_slash, read_open, read_mark, read_token, read_lexeme, stand_behind, read_lexemes, lexemes_of}
-use Rattle.expr77.proofs.LexemeParts.{IsFormed, AllFormed, pieces_of_tokens, cut_formed, cut_pieces, Behind, joined, first_read, mark_found, run_found, digits_found, IsNumberText, number_found, complex_found, hollerith_found}
+use Rattle.expr77.proofs.LexemeParts.{pieces_of_tokens, Behind, joined, first_read, mark_found, run_found, digits_found, IsNumberText, number_found, complex_found, hollerith_found}
 
 -- the tokens begin with the lexeme, and the rest follows
 record Leads (tokens : List Token) (i : Lexeme) (rest : List Token) : Type 0 where
@@ -100,22 +101,32 @@ quoted_found true (c ∷ t) value e = go (c == 39) refl e (quoted_found false t)
         record { inside = 39 ∷ 39 ∷ q.inside; whole = ap (λ (n : ℕ). 39 ∷ n ∷ t) (eqb-true c 39 is) ∙ ap (λ (x : List ℕ). 39 ∷ 39 ∷ x) q.whole; is = quoted_apostrophe refl q.is (sym m.is) }
     go false is e more = absurd cc
 
--- a kept text that is read is a character constant
-characters_found : (t value : List ℕ) → quoted_value t ≡ Some value → IsLexeme (piece.whole t ∷ []) (characters value)
-characters_found [] value e = absurd cc
-characters_found (c ∷ t) value e = go (c == 39) refl e
+-- where its characters are read, a text is an apostrophe, what stands for the value, and another one
+pub record IsConstantText (text value : List ℕ) : Type 0 where
+  pub inside : List ℕ
+  pub whole : text ≡ 39 ∷ (inside ++ 39 ∷ [])
+  pub is : IsQuoted inside value
+  pub some : value ≢ []
+
+pub text_found : (t value : List ℕ) → quoted_value t ≡ Some value → IsConstantText t value
+text_found [] value e = absurd cc
+text_found (c ∷ t) value e = go (c == 39) refl e
   where
     not_empty : (v : List ℕ) → unless_empty v ≡ Some value → (v ≡ value) × (value ≢ [])
     not_empty [] e = absurd cc
     not_empty (d ∷ v) e = let same = same_Some (d ∷ v) value e in (same, λ none. let bad : d ∷ v ≡ [] = same ∙ none in cc)
 
-    go : (b : Bool) → (c == 39) ≡ b → (if b then option_and_then unless_empty (read_quoted false t) else None) ≡ Some value → IsLexeme (piece.whole (c ∷ t) ∷ []) (characters value)
+    go : (b : Bool) → (c == 39) ≡ b → (if b then option_and_then unless_empty (read_quoted false t) else None) ≡ Some value → IsConstantText (c ∷ t) value
     go false is e = absurd cc
     go true is e =
         let w = went (read_quoted false t) unless_empty value e in
         let q = quoted_found false t w.from w.was in
         let n = not_empty w.from w.is in
-        lexeme_characters q.inside value (ap (λ (n : ℕ). piece.whole (n ∷ t) ∷ []) (eqb-true c 39 is) ∙ ap (λ (x : List ℕ). piece.whole (39 ∷ x) ∷ []) q.whole) (subst (IsQuoted q.inside) n.0 q.is) n.1 refl
+        record { inside = q.inside; whole = ap (λ (n : ℕ). n ∷ t) (eqb-true c 39 is) ∙ ap (λ (x : List ℕ). 39 ∷ x) q.whole; is = subst (IsQuoted q.inside) n.0 q.is; some = n.1 }
+
+-- a kept text that is read is a character constant
+characters_found : (t value : List ℕ) → quoted_value t ≡ Some value → IsLexeme (piece.whole t ∷ []) (characters value)
+characters_found t value e = let f = text_found t value e in lexeme_characters f.inside value (ap (λ (x : List ℕ). piece.whole x ∷ []) f.whole) f.is f.some refl
 
 -- ---- words between points
 
@@ -277,8 +288,7 @@ lexemes_lead (suc n) s (t ∷ ts) lexemes all e =
     let m = mapped (read_lexemes n (stand_behind w.from.0) w.from.1) (λ (is : List Lexeme). w.from.0 ∷ is) lexemes w.is in
     lexemes_more f.front f.spelled (lexemes_lead n (stand_behind w.from.0) w.from.1 m.from f.formed m.was) (sym m.is)
 
--- what is read of the tokens of some pieces is spelled by the pieces
-pub lexemes_found : (pieces : List Piece) (tokens : List Token) (lexemes : List Lexeme) → IsCut pieces tokens → lexemes_of tokens ≡ Some lexemes → AreLexemes pieces lexemes
+-- what is read of tokens is spelled by their pieces
+pub lexemes_found : (tokens : List Token) (lexemes : List Lexeme) → AllFormed tokens → lexemes_of tokens ≡ Some lexemes → AreLexemes (pieces_of_tokens tokens) lexemes
 unfolding lexemes_of
-lexemes_found pieces tokens lexemes cut e =
-    subst (λ (ps : List Piece). AreLexemes ps lexemes) (sym (cut_pieces pieces tokens cut)) (lexemes_lead (length tokens) reading.at_operand tokens lexemes (cut_formed pieces tokens cut) e)
+lexemes_found tokens lexemes all e = lexemes_lead (length tokens) reading.at_operand tokens lexemes all e

@@ -106,7 +106,7 @@ read_constant s text rest more (inr (inl is)) may b = read_complex s text rest m
 read_constant s text rest more (inr (inr is)) may b = read_hollerith s text rest more is may b
 
 -- what stands between apostrophes
-quoted_read : (inside value : List ℕ) → IsQuoted inside value → read_quoted false (inside ++ 39 ∷ []) ≡ Some value
+pub quoted_read : (inside value : List ℕ) → IsQuoted inside value → read_quoted false (inside ++ 39 ∷ []) ≡ Some value
 quoted_read inside value (quoted_nothing none nothing) = ap (λ t. read_quoted false (t ++ 39 ∷ [])) none ∙ ap Some (sym nothing)
 quoted_read inside value (quoted_other {more = more} {rest = rest} c is apart quoted v) =
     ap (λ t. read_quoted false (t ++ 39 ∷ [])) is
@@ -119,7 +119,7 @@ quoted_read inside value (quoted_apostrophe {more = more} {rest = rest} is quote
     ∙ ap Some (sym v)
 
 -- a value that isn't empty passes
-some_value : (value : List ℕ) → value ≢ [] → unless_empty value ≡ Some value
+pub some_value : (value : List ℕ) → value ≢ [] → unless_empty value ≡ Some value
 some_value [] some = absurd (some refl)
 some_value (c ∷ t) some = refl
 

@@ -3,53 +3,24 @@ use Rattle.std.proofs.Common.{◌≡◌, ◌≢◌, ◌⊎◌, inl, inr, ℕ, Bo
 use Rattle.std.specs.Prelude.{if◌then◌else◌}
 use Rattle.std.specs.List.{list_all, flat_map}
 use Rattle.std.specs.Option.{option_map, option_and_then, option_or}
-use Rattle.std.proofs.lemmas.Bool.{and_parts, and_from, or_cases, eqb-true}
+use Rattle.std.proofs.lemmas.Bool.{and_parts, or_cases, eqb-true}
 use Rattle.std.proofs.lemmas.List.{append-nil, map-append}
 use Rattle.std.proofs.lemmas.Option.{same_Some}
 use Rattle.text_base.specs.Chars.{is_digit, is_upper, is_name_byte}
 use Rattle.text_base.specs.Pieces.{Piece, plain}
 use Rattle.tree77.specs.Kinds.{is_word, is_number}
-use Rattle.tree77.specs.Tokens.{Token, TokenKind, run, digits, kept, mark, IsCut, cut_nothing, cut_run, cut_digits, cut_text, cut_mark, token_pieces}
+use Rattle.tree77.specs.Tokens.{Token, TokenKind, run, digits, kept, mark, token_pieces}
 use Rattle.tree77.specs.Lexemes.{IsSign, IsExponent, IsReal, real_point, real_exponent, IsPart, IsComplex}
+use Rattle.scan77.specs.TokenReading.{IsFormed, AllFormed}
 use Rattle.text_base.proofs.Optional.{went, mapped, either}
 use Rattle.expr77.specs.LexemeReading as reading
 use Rattle.expr77.specs.LexemeReading.{Number, real, character_of, first_or_0, behind_mark, or_all, behind_sign, run_here, digits_here, is_exponent_letter, behind_exponent_run, behind_exponent, behind_point, behind_digits, number_from, read_number, behind_part, behind_complex, begins_with_h, behind_hollerith}
 
 -- ---- tokens and their pieces
 
--- what a text of a token of this kind is
-abbrev pub IsFormed : TokenKind → List ℕ → Type 0
-IsFormed run t = is_word t ≡ true
-IsFormed digits t = is_number t ≡ true
-IsFormed kept t = Unit {0}
-IsFormed mark t = (c : ℕ) × (t ≡ c ∷ [])
-
--- each token is formed
-abbrev pub AllFormed : List Token → Type 0
-AllFormed [] = Unit {0}
-AllFormed (t ∷ ts) = IsFormed t.kind t.text × AllFormed ts
-
 -- the pieces of tokens, one token after another
 abbrev pub pieces_of_tokens : List Token → List Piece
 pieces_of_tokens = flat_map token_pieces
-
--- tokens that pieces are cut into are formed
-pub cut_formed : (pieces : List Piece) (tokens : List Token) → IsCut pieces tokens → AllFormed tokens
-cut_formed pieces tokens (cut_nothing none end) = subst AllFormed (sym end) tt
-cut_formed pieces tokens (cut_run {rest = rest} {more = more} c u front upper all stops follows is) = subst AllFormed (sym is) (and_from (is_upper c) (list_all is_name_byte u) upper all, cut_formed rest more follows)
-cut_formed pieces tokens (cut_digits {rest = rest} {more = more} c u front digit all stops follows is) = subst AllFormed (sym is) (and_from (is_digit c) (list_all is_digit u) digit all, cut_formed rest more follows)
-cut_formed pieces tokens (cut_text {rest = rest} {more = more} t front follows is) = subst AllFormed (sym is) (tt, cut_formed rest more follows)
-cut_formed pieces tokens (cut_mark {rest = rest} {more = more} c front marks follows is) = subst AllFormed (sym is) ((c, refl), cut_formed rest more follows)
-
--- pieces are those of the tokens that they are cut into
-pub cut_pieces : (pieces : List Piece) (tokens : List Token) → IsCut pieces tokens → pieces ≡ pieces_of_tokens tokens
-cut_pieces pieces tokens (cut_nothing none end) = none ∙ ap pieces_of_tokens (sym end)
-cut_pieces pieces tokens (cut_run {rest = rest} {more = more} c u front upper all stops follows is) =
-    front ∙ ap (λ (x : List Piece). plain c ∷ (map plain u ++ x)) (cut_pieces rest more follows) ∙ ap pieces_of_tokens (sym is)
-cut_pieces pieces tokens (cut_digits {rest = rest} {more = more} c u front digit all stops follows is) =
-    front ∙ ap (λ (x : List Piece). plain c ∷ (map plain u ++ x)) (cut_pieces rest more follows) ∙ ap pieces_of_tokens (sym is)
-cut_pieces pieces tokens (cut_text {rest = rest} {more = more} t front follows is) = front ∙ ap (λ (x : List Piece). token_pieces (record { kind = kept; text = t }) ++ x) (cut_pieces rest more follows) ∙ ap pieces_of_tokens (sym is)
-cut_pieces pieces tokens (cut_mark {rest = rest} {more = more} c front marks follows is) = front ∙ ap (λ (x : List Piece). plain c ∷ x) (cut_pieces rest more follows) ∙ ap pieces_of_tokens (sym is)
 
 -- ---- a text at the front
 

@@ -12,3 +12,6 @@ pub mod LexemeOnly
 pub mod ExpressionLaw
 pub mod Parsed
 pub mod StopLaw
+pub mod QuotedConstants
+pub mod ConstantTexts
+pub mod ConstantStops

@@ -1,10 +1,9 @@
 -- Expressions stop at the first mark outside parentheses that stops one, and begin with what begins one.
-use Rattle.std.proofs.Common.{◌≡◌, ◌⊎◌, inl, inr, ℕ, suc, Bool, true, false, not, ◌&&◌, ◌==◌, List, [], ◌∷◌, ◌++◌, map, length, codes, Some, refl, sym, ap, ◌∙◌, subst, append_assoc, arith}
+use Rattle.std.proofs.Common.{◌≡◌, inl, inr, ℕ, suc, Bool, true, false, not, ◌&&◌, ◌==◌, List, [], ◌∷◌, ◌++◌, map, length, codes, Some, refl, sym, ap, ◌∙◌, subst, append_assoc, arith}
 use Rattle.std.specs.Prelude.{if◌then◌else◌}
 use Rattle.std.specs.List.{list_all}
-use Rattle.std.proofs.lemmas.Bool.{and_parts, and_from}
+use Rattle.std.proofs.lemmas.Bool.{and_parts}
 use Rattle.std.proofs.lemmas.Bool.Decides.{nat_tests}
-use Rattle.std.proofs.lemmas.List.Folds.{list_all-append}
 use Rattle.std.proofs.lemmas.List.{map-append, append-nil}
 use Rattle.std.proofs.Math.Bool.{and-false}
 use Rattle.std.proofs.lemmas.Option.{same_Some}
@@ -14,9 +13,10 @@ use Rattle.tree77.specs.Kinds.{is_word, is_number, open_after}
 use Rattle.text_base.specs.Trees.{BinaryOp, power, times, over, add, subtract, concat, less, less_equal, equal, not_equal, greater, greater_equal, conjunction, disjunction, equivalence, nonequivalence, Expr}
 use Rattle.tree77.specs.Expressions as symbol
 use Rattle.tree77.specs.Expressions.{Symbol, is_sum}
-use Rattle.tree77.specs.Lexemes.{Lexeme, integer, constant, logical, characters, name, alternate, operator, not_sign, opening, closing, comma, colon, IsSign, IsExponent, IsReal, real_point, real_exponent, IsPart, IsComplex, IsHollerith, IsConstant, is_label, operator_text, logical_text, IsLexeme, lexeme_integer, lexeme_constant, lexeme_logical, lexeme_characters, lexeme_name, lexeme_alternate, lexeme_operator, lexeme_not, lexeme_open, lexeme_close, lexeme_comma, lexeme_colon, AreLexemes, lexemes_none, lexemes_more, symbol_of, IsWideExpression}
+use Rattle.tree77.specs.Lexemes.{Lexeme, integer, constant, logical, characters, name, alternate, operator, not_sign, opening, closing, comma, colon, IsReal, real_point, real_exponent, IsComplex, IsConstant, is_label, operator_text, logical_text, IsLexeme, lexeme_integer, lexeme_constant, lexeme_logical, lexeme_characters, lexeme_name, lexeme_alternate, lexeme_operator, lexeme_not, lexeme_open, lexeme_close, lexeme_comma, lexeme_colon, AreLexemes, lexemes_none, lexemes_more, symbol_of, IsWideExpression}
 use Rattle.tree77.specs.Stops.{is_stop, Stops, until_stop, begins_expression, Begins}
 use Rattle.expr77.specs.LexemeReading.{Stand, at_operand, is_after}
+use Rattle.expr77.proofs.ConstantTexts.{all_more, is_character, AreCharacters, digits_characters, number_characters, word_characters, real_characters, part_characters, hollerith_characters, logical_characters}
 use Rattle.expr77.proofs.Standing.{stand_after, levels_behind, fits, fits_end, first_fits, expression_fits}
 
 -- ---- characters
@@ -25,17 +25,9 @@ use Rattle.expr77.proofs.Standing.{stand_after, levels_behind, fits, fits_end, f
 abbrev is_other : ℕ → Bool
 is_other c = not (c == 40) && not (is_stop c)
 
--- a letter is neither
-letter_is_other : (c : ℕ) → is_upper c ≡ true → is_other c ≡ true
-letter_is_other c is = grind (arith, nat_tests)
-
--- a digit is neither
-digit_is_other : (c : ℕ) → is_digit c ≡ true → is_other c ≡ true
-digit_is_other c is = grind (arith, nat_tests)
-
--- a letter, a digit or an underscore is neither
-name_byte_is_other : (c : ℕ) → is_name_byte c ≡ true → is_other c ≡ true
-name_byte_is_other c is = grind (arith, nat_tests)
+-- a character of a number or a word is neither
+character_is_other : (c : ℕ) → is_character c ≡ true → is_other c ≡ true
+character_is_other c is = grind (arith, nat_tests)
 
 -- a letter begins an expression
 letter_begins : (c : ℕ) → is_upper c ≡ true → begins_expression c ≡ true
@@ -110,87 +102,17 @@ inner_passes n c is = one_passes (suc n) (suc n) c (some_open n c) is
 
 -- ---- texts without parentheses and stops
 
--- where each character passes a test, each passes a weaker one
-all_more : (p q : ℕ → Bool) → ((c : ℕ) → p c ≡ true → q c ≡ true) → (u : List ℕ) → list_all p u ≡ true → list_all q u ≡ true
-all_more p q step [] all = refl
-all_more p q step (c ∷ u) all =
-    let parts = and_parts (p c) (list_all p u) all in
-    and_from (q c) (list_all q u) (step c parts.0) (all_more p q step u parts.1)
-
 -- a text without parentheses and stops
 abbrev AreOther : List ℕ → Type 0
 AreOther u = list_all is_other u ≡ true
 
--- two such texts, one after the other
-both_other : (u v : List ℕ) → AreOther u → AreOther v → AreOther (u ++ v)
-both_other u v a b = list_all-append is_other u v ∙ and_from (list_all is_other u) (list_all is_other v) a b
-
--- digits are such a text
-digits_other : (u : List ℕ) → list_all is_digit u ≡ true → AreOther u
-digits_other u = all_more is_digit is_other digit_is_other u
-
--- so are letters, digits and underscores
-name_bytes_other : (u : List ℕ) → list_all is_name_byte u ≡ true → AreOther u
-name_bytes_other u = all_more is_name_byte is_other name_byte_is_other u
-
--- so is a number
-number_other : (u : List ℕ) → is_number u ≡ true → AreOther u
-number_other [] is = refl
-number_other (c ∷ u) is = digits_other (c ∷ u) is
-
--- so is a name
-word_other : (u : List ℕ) → is_word u ≡ true → AreOther u
-word_other [] is = refl
-word_other (c ∷ u) is =
-    let parts = and_parts (is_upper c) (list_all is_name_byte u) is in
-    and_from (is_other c) (list_all is_other u) (letter_is_other c parts.0) (name_bytes_other u parts.1)
-
--- so is a sign
-sign_other : (u : List ℕ) → IsSign u → AreOther u
-sign_other u (inl is) = ap (list_all is_other) is
-sign_other u (inr (inl is)) = ap (list_all is_other) is
-sign_other u (inr (inr is)) = ap (list_all is_other) is
-
--- E and D are neither
-exponent_letter : (c : ℕ) → (c ≡ 69) ⊎ (c ≡ 68) → is_other c ≡ true
-exponent_letter c (inl is) = ap is_other is
-exponent_letter c (inr is) = ap is_other is
-
--- an exponent is such a text
-exponent_other : (u : List ℕ) → IsExponent u → AreOther u
-exponent_other u e =
-    ap (list_all is_other) e.whole
-    ∙ and_from (is_other e.letter) (list_all is_other (e.sign ++ e.digits)) (exponent_letter e.letter e.lettered)
-    (both_other e.sign e.digits (sign_other e.sign e.signed) (number_other e.digits e.numbered))
-
--- so is one that may be missing
-maybe_exponent : (u : List ℕ) → (u ≡ []) ⊎ IsExponent u → AreOther u
-maybe_exponent u (inl is) = ap (list_all is_other) is
-maybe_exponent u (inr is) = exponent_other u is
-
--- so is a real constant
-real_other : (u : List ℕ) → IsReal u → AreOther u
-real_other u (real_point before after exponent is left right some ends) =
-    ap (list_all is_other) is
-    ∙ both_other before (46 ∷ (after ++ exponent)) (digits_other before left) (both_other after exponent (digits_other after right) (maybe_exponent exponent ends))
-real_other u (real_exponent before exponent is left ends) = ap (list_all is_other) is ∙ both_other before exponent (number_other before left) (exponent_other exponent ends)
-
--- so is an integer or a real constant
-numeric_other : (u : List ℕ) → (is_number u ≡ true) ⊎ IsReal u → AreOther u
-numeric_other u (inl is) = number_other u is
-numeric_other u (inr is) = real_other u is
-
--- so is a part of a complex constant
-part_other : (u : List ℕ) → IsPart u → AreOther u
-part_other u p = ap (list_all is_other) p.whole ∙ both_other p.sign p.number (sign_other p.sign p.signed) (numeric_other p.number p.numeric)
-
--- so is a Hollerith constant
-hollerith_other : (u : List ℕ) → IsHollerith u → AreOther u
-hollerith_other u h = ap (list_all is_other) h.whole ∙ both_other h.count (72 ∷ h.kept) (number_other h.count h.numbered) (name_bytes_other h.kept h.word)
+-- a text of characters of numbers and words is one
+are_other : (u : List ℕ) → AreCharacters u → AreOther u
+are_other = all_more is_character is_other character_is_other
 
 -- so is a label
 label_other : (u : List ℕ) → is_label u ≡ true → AreOther u
-label_other u is = digits_other u (and_parts (list_all is_digit u) _ is).0
+label_other u is = are_other u (digits_characters u (and_parts (list_all is_digit u) _ is).0)
 
 -- so is an operator
 operator_other : (o : BinaryOp) → AreOther (operator_text o)
@@ -211,30 +133,25 @@ operator_other disjunction = refl
 operator_other equivalence = refl
 operator_other nonequivalence = refl
 
--- so is a logical constant
-logical_other : (b : Bool) → AreOther (logical_text b)
-logical_other true = refl
-logical_other false = refl
-
 -- ---- lexemes
 
 -- a complex constant closes the parenthesis that it opens
 complex_passes : (n : ℕ) (u : List ℕ) → IsComplex u → Passes (map plain u) n n
 complex_passes n u c =
     let last : Passes (map plain (c.imaginary ++ 41 ∷ [])) (suc n) n =
-    texts_pass c.imaginary (41 ∷ []) (suc n) (suc n) n (text_passes (suc n) c.imaginary (part_other c.imaginary c.imaginary_part)) (close_passes n) in
+    texts_pass c.imaginary (41 ∷ []) (suc n) (suc n) n (text_passes (suc n) c.imaginary (are_other c.imaginary (part_characters c.imaginary c.imaginary_part))) (close_passes n) in
     let second : Passes (map plain (44 ∷ (c.imaginary ++ 41 ∷ []))) (suc n) n =
     both_pass (plain 44 ∷ []) (map plain (c.imaginary ++ 41 ∷ [])) (suc n) (suc n) n (inner_passes n 44 refl) last in
     let first : Passes (map plain (c.real ++ 44 ∷ (c.imaginary ++ 41 ∷ []))) (suc n) n =
-    texts_pass c.real (44 ∷ (c.imaginary ++ 41 ∷ [])) (suc n) (suc n) n (text_passes (suc n) c.real (part_other c.real c.real_part)) second in
+    texts_pass c.real (44 ∷ (c.imaginary ++ 41 ∷ [])) (suc n) (suc n) n (text_passes (suc n) c.real (are_other c.real (part_characters c.real c.real_part))) second in
     subst (λ x. Passes (map plain x) n n) (sym c.whole)
     (both_pass (plain 40 ∷ []) (map plain (c.real ++ 44 ∷ (c.imaginary ++ 41 ∷ []))) n (suc n) n (open_passes n) first)
 
 -- a constant leaves open what was open
 constant_passes : (n : ℕ) (u : List ℕ) → IsConstant u → Passes (map plain u) n n
-constant_passes n u (inl is) = text_passes n u (real_other u is)
+constant_passes n u (inl is) = text_passes n u (are_other u (real_characters u is))
 constant_passes n u (inr (inl is)) = complex_passes n u is
-constant_passes n u (inr (inr is)) = text_passes n u (hollerith_other u is)
+constant_passes n u (inr (inr is)) = text_passes n u (are_other u (hollerith_characters u is))
 
 -- a lexeme of a text that leaves open what was open
 stays : (first : List Piece) (u : List ℕ) (n m : ℕ) → first ≡ map plain u → n ≡ m → Passes (map plain u) n n → Passes first n m
@@ -279,12 +196,12 @@ lexeme_passes first i lexeme s ls levels e = go lexeme
     text u j front is same passes = stays first u n (length levels) front (same_length ls levels (sym same ∙ at j is)) passes
 
     go : IsLexeme first i → Passes first n (length levels)
-    go (lexeme_integer u front number is) = text u (integer u) front is refl (text_passes n u (number_other u number))
+    go (lexeme_integer u front number is) = text u (integer u) front is refl (text_passes n u (are_other u (number_characters u number)))
     go (lexeme_constant u front refused is) = text u constant front is refl (constant_passes n u refused)
-    go (lexeme_logical b front is) = text (logical_text b) (logical b) front is refl (text_passes n (logical_text b) (logical_other b))
+    go (lexeme_logical b front is) = text (logical_text b) (logical b) front is refl (text_passes n (logical_text b) (are_other (logical_text b) (logical_characters b)))
     go (lexeme_characters within value front quoted some is) =
         subst (λ x. Passes x n (length levels)) (sym front) (subst (Passes (whole (39 ∷ (within ++ 39 ∷ [])) ∷ []) n) (same_length ls levels (at (characters value) is)) (λ rest. refl))
-    go (lexeme_name u front word is) = text u (name u) front is refl (text_passes n u (word_other u word))
+    go (lexeme_name u front word is) = text u (name u) front is refl (text_passes n u (are_other u (word_characters u word)))
     go (lexeme_alternate u front label is) = text (42 ∷ u) alternate front is refl (text_passes n (42 ∷ u) (label_other u label))
     go (lexeme_operator o front is) = text (operator_text o) (operator o) front is refl (text_passes n (operator_text o) (operator_other o))
     go (lexeme_not front is) = text (codes ".NOT.") not_sign front is refl (text_passes n (codes ".NOT.") refl)

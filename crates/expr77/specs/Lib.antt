@@ -3,3 +3,4 @@ pub mod Gathering
 pub mod Outcome
 pub mod Parsing
 pub mod Views
+pub mod Constants

@@ -81,8 +81,13 @@ fn quoted(alloc: Global, text: &[u8]) -> Result<Option<Bytes>, AllocError>
     if pending { Ok(Some(value)) } else { Ok(None) }
 }
 
-/// The characters that a character constant stands for, where these are one (X3.9 section 4.8.1).
-fn constant_value(alloc: Global, text: &[u8]) -> Result<Option<Bytes>, AllocError>
+/// The characters that a character constant stands for (X3.9 section 4.8.1).
+///
+/// In: a text.
+///
+/// Out: the characters, where the text is a character constant with its apostrophes; `None` where it is none. An error comes
+/// only where memory is wanted.
+pub fn quoted_text(alloc: Global, text: &[u8]) -> Result<Option<Bytes>, AllocError>
     ensures { IfOk result (λ value. value ≡ reading.quoted_value text.now) }
 {
     match text {
@@ -313,7 +318,7 @@ fn text_lexeme<'t, 'a>(
 ) -> Result<Option<(Lexeme<'a>, &'t [Token<'a>])>, AllocError>
     ensures { IfOk result (λ found. option_map (λ p. (lexeme_of p.0, tokens_of p.1.now)) found ≡ reading.characters_at text.now (tokens_of rest.now)) }
 {
-    match constant_value(alloc, text)? {
+    match quoted_text(alloc, text)? {
         Some(value) => Ok(Some((Lexeme::Characters(value), rest))),
         None => Ok(None),
     }

@@ -11,7 +11,11 @@ mod parse_error;
 mod parsing;
 mod part;
 
-pub use laws::{expressions_are_cut, expressions_stop, one_expression, outcomes_are_spelled};
+pub use laws::{
+    constants_are_quoted, constants_stop, expressions_are_cut, expressions_are_read,
+    expressions_stop, one_expression, outcomes_are_spelled,
+};
+pub use lexeme_reading::quoted_text;
 pub use parse_error::ParseError;
 pub use parsing::{Progress, parse_expr, read_expr};
 pub use part::Part;

@@ -71,7 +71,7 @@ fn read<'a>(
 /// Reads exactly one expression from all the tokens (X3.9 section 6), which stands in a statement.
 ///
 /// In: what is known where it begins, and its tokens, as those that `cut` gives: `found` and `none` speak of tokens that some
-/// pieces are cut into. The open parentheses and the tokens together are fewer than 2 ^ 64, so that they can be counted.
+/// pieces are cut into, `read` of any tokens. The open parentheses and the tokens together are fewer than 2 ^ 64, so that they can be counted.
 ///
 /// Out: the tree, where the tokens are an expression in which each refused part stands for one that may stand in its place,
 /// and then `progress` has the lowest part so far, those of the expression among them; or `None`, exactly where they are no
@@ -83,6 +83,8 @@ pub fn read_expr<'a>(
     tokens: &[Token<'a>],
 ) -> Result<Option<Expr>, AllocError>
     requires { progress.old.depth + length tokens.now < 2 ^ 64 }
+    ensures read { IfOk result (λ made. option_map (λ x. (expr_of x, option_map plain_part progress.new.lowest)) made
+        ≡ expression_of progress.old.depth (option_map plain_part progress.old.lowest) (tokens_of tokens.now)) }
     ensures found { (pieces : List Piece) → IsCut pieces (tokens_of tokens.now)
         → IfOk result (λ made. IfSome made (λ x. IsReadFrom progress.old.depth (option_map plain_part progress.old.lowest) pieces (expr_of x) (option_map plain_part progress.new.lowest))) }
     ensures none { (pieces : List Piece) → IsCut pieces (tokens_of tokens.now) → result ≡ Ok None → (lexemes : List Lexeme) (x : tree.Expr) → IsWideExpression pieces lexemes x → ⊥ }

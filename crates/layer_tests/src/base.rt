@@ -27,6 +27,8 @@ fn causes(rt: HostRuntime) -> Result<(), Fail> {
         Cause::BadCharacter,
         Cause::NotAStatement,
         Cause::Unsupported,
+        Cause::ConstantRange,
+        Cause::NameTooLong,
         Cause::MissingEnd,
         Cause::MainCount,
         Cause::StatementTooLong,
@@ -37,7 +39,7 @@ fn causes(rt: HostRuntime) -> Result<(), Fail> {
         add_cause(rt.alloc(), cause, &mut said)?;
     }
     let wanted =
-        b"1 FileTooLarge|2 LineTooLong|3 BadLabelField|4 ContinuationFirst|5 TooManyContinuations|6 BadCharacter|7 NotAStatement|8 Unsupported|13 MissingEnd|29 MainCount|37 StatementTooLong|99 NotBuilt|";
+        b"1 FileTooLarge|2 LineTooLong|3 BadLabelField|4 ContinuationFirst|5 TooManyContinuations|6 BadCharacter|7 NotAStatement|8 Unsupported|9 ConstantRange|10 NameTooLong|13 MissingEnd|29 MainCount|37 StatementTooLong|99 NotBuilt|";
     check(&rt, said.as_slice(), wanted);
     Ok(())
 }

@@ -84,9 +84,9 @@ fn write_bound(
     }
 }
 
-// Writes a tree: braces stand around each operator with its operands, parentheses where the source has them.
+/// Writes a tree: braces stand around each operator with its operands, parentheses where the source has them.
 #[cycle(tree)]
-fn write_tree(alloc: Global, tree: &Expr, out: &mut Bytes) -> Result<(), AllocError> {
+pub fn write_tree(alloc: Global, tree: &Expr, out: &mut Bytes) -> Result<(), AllocError> {
     match tree {
         Expr::Int(value) => write_number(alloc, *value, out),
         Expr::Bool(value) => write_truth(*value, out),
@@ -126,7 +126,8 @@ fn write_tree(alloc: Global, tree: &Expr, out: &mut Bytes) -> Result<(), AllocEr
     }
 }
 
-fn write_refusal(alloc: Global, refusal: &Refusal, out: &mut Bytes) -> Result<(), AllocError> {
+/// Writes the number and the name of a refusal.
+pub fn write_refusal(alloc: Global, refusal: &Refusal, out: &mut Bytes) -> Result<(), AllocError> {
     let number = refusal.cause.number();
     let text = format!(in alloc; "{number} ")?;
     out.extend(text.as_bytes())?;

@@ -10,6 +10,8 @@ mod expressions;
 #[cfg(test)]
 mod files;
 #[cfg(test)]
+mod forms;
+#[cfg(test)]
 mod help;
 #[cfg(test)]
 mod kinds;

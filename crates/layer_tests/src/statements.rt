@@ -1,31 +1,38 @@
 // The statements of a file, and the program that they are.
+use crate::forms::write_outcome;
 use crate::table::rows_of;
 use crate::tables::statements::STATEMENTS;
 use card_reader::{Card, read_cards};
-use parse77::{ReadStatement, Statement, main_program, read_statements, shown};
+use parse77::{ReadStatement, StatementOutcome, main_program, read_statements, shown};
 use std::alloc::{AllocError, Global};
 use std::test::Fail;
 use text_base::{Bytes, Place};
 use tree77::Unit77;
-
-// What a statement is, in a word.
-fn word(statement: &Option<Statement>) -> &'static str {
-    match statement {
-        Some(Statement::Program(_)) => "program",
-        Some(Statement::Assign(_, _)) => "assign",
-        Some(Statement::Continue) => "continue",
-        Some(Statement::Stop) => "stop",
-        Some(Statement::End) => "end",
-        None => "none",
-    }
-}
 
 fn add_place(alloc: Global, place: Place, out: &mut Bytes) -> Result<(), AllocError> {
     let Place { file, line } = place;
     out.extend(format!(in alloc; "{file}:{line} ")?.as_bytes())
 }
 
-// The place of a statement, what it is, its characters and a stroke.
+// The label of a statement, if it has one.
+fn add_label(alloc: Global, label: u32, out: &mut Bytes) -> Result<(), AllocError> {
+    if label == 0 {
+        return Ok(());
+    }
+    out.extend(format!(in alloc; "label {label} ")?.as_bytes())
+}
+
+// That a refusal stands elsewhere than its statement.
+fn add_elsewhere(read: &ReadStatement, out: &mut Bytes) -> Result<(), AllocError> {
+    match &read.outcome {
+        StatementOutcome::Refused(refusal) if refusal.place != read.place => {
+            out.extend(b"elsewhere ")
+        }
+        _ => Ok(()),
+    }
+}
+
+// The place of a statement, its label, what it is read as, its characters and a stroke.
 fn add_statement(
     alloc: Global,
     read: &ReadStatement,
@@ -33,7 +40,9 @@ fn add_statement(
     out: &mut Bytes,
 ) -> Result<(), AllocError> {
     add_place(alloc, read.place, out)?;
-    out.extend(word(&read.statement).as_bytes())?;
+    add_elsewhere(read, out)?;
+    add_label(alloc, read.label, out)?;
+    write_outcome(alloc, &read.outcome, out)?;
     out.push(b' ')?;
     out.extend(shown(alloc, card)?.as_slice())?;
     out.push(b'|')
@@ -84,7 +93,7 @@ fn program_told(alloc: Global, file: &[u8]) -> Result<Bytes, Fail> {
 #[test]
 fn statements_and_programs_are_read(rt: HostRuntime) -> Result<(), Fail> {
     let alloc = rt.alloc();
-    for row in rows_of(alloc, STATEMENTS, 2, 3)?.iter() {
+    for row in rows_of(alloc, STATEMENTS, 7, 3)?.iter() {
         row.check(&rt, 1, statements_told(alloc, row.field(0))?.as_slice());
         row.check(&rt, 2, program_told(alloc, row.field(0))?.as_slice());
     }

@@ -3,6 +3,7 @@ pub mod answers;
 pub mod cards;
 pub mod expressions;
 pub mod files;
+pub mod forms;
 pub mod kinds;
 pub mod printed;
 pub mod statements;

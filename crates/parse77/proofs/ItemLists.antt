@@ -6,9 +6,9 @@ use Rattle.std.specs.Option.{option_and_then}
 use Rattle.std.proofs.lemmas.List.{append_assoc, map-append, reverse-append}
 use Rattle.text_base.specs.declared.refusal.Place.{Place}
 use Rattle.tree77.specs.Plain.{code_of}
-use Rattle.tree77.specs.Spelling.{Statement, program, action, continue, end}
+use Rattle.tree77.specs.Spelling.{Built, program, action, continue, end_of_unit}
 use Rattle.tree77.specs.declared.tree.Item77.{Item77}
-use Rattle.parse77.specs.Reading.{ReadCard, Ended, join_code, read_code, unit_with, read_unit}
+use Rattle.parse77.specs.SourceReading.{ReadCard, Ended, join_code, read_code, unit_with, read_unit}
 use Rattle.parse77.specs.Statement.{card_read}
 use Rattle.parse77.specs.Unit.{adds, header_name}
 use Rattle.parse77.specs.declared.statement.ReadStatement.{ReadStatement}
@@ -20,14 +20,14 @@ none_before : (front : List ReadCard) (x : ReadCard) (back : List ReadCard) → 
 none_before [] x back none = none
 none_before (y ∷ front) x back none = ap (λ more. option_and_then (λ s. join_code y.place s (front ++ x ∷ back) more) y.spelled) (none_before front x back none) ∙ spelled y.spelled front
   where
-    joined : (s : Statement) (front : List ReadCard) → join_code y.place s (front ++ x ∷ back) None ≡ None
+    joined : (s : Built) (front : List ReadCard) → join_code y.place s (front ++ x ∷ back) None ≡ None
     joined (program x) front = refl
     joined (action a) front = refl
     joined continue front = refl
-    joined end [] = refl
-    joined end (z ∷ front) = refl
+    joined end_of_unit [] = refl
+    joined end_of_unit (z ∷ front) = refl
 
-    spelled : (o : Option Statement) (front : List ReadCard) → option_and_then (λ s. join_code y.place s (front ++ x ∷ back) None) o ≡ None
+    spelled : (o : Option Built) (front : List ReadCard) → option_and_then (λ s. join_code y.place s (front ++ x ∷ back) None) o ≡ None
     spelled None front = refl
     spelled (Some s) front = joined s front
 
@@ -95,12 +95,12 @@ first_removed [] rest first at is = absurd cc
 first_removed (x ∷ xs) rest first at is = let same : x ≡ first = cc in λ i. same i ∷ sym is i
 
 -- the unit that begins with a statement, by the name in it
-named : (here : Place) (s : Option Statement) (ended : Option Ended) → option_and_then (λ x. unit_with here (program x) ended) (option_and_then header_name s) ≡ option_and_then (λ t. unit_with here t ended) s
+named : (here : Place) (s : Option Built) (ended : Option Ended) → option_and_then (λ x. unit_with here (program x) ended) (option_and_then header_name s) ≡ option_and_then (λ t. unit_with here t ended) s
 named here None ended = refl
 named here (Some (program x)) ended = refl
 named here (Some (action a)) ended = refl
 named here (Some continue) ended = refl
-named here (Some end) ended = refl
+named here (Some end_of_unit) ended = refl
 
 pub unit_named : (all rest : List ReadStatement) (first : ReadStatement) (x : Option (List ℕ)) → all ≡ first ∷ rest → x ≡ option_and_then header_name (card_read first).spelled
     → option_and_then (λ x. unit_with first.place (program x) (read_code (map card_read rest))) x ≡ read_unit (map card_read all)

@@ -1,4 +1,11 @@
 mod ItemLists
+mod SameReading
+mod Looks
+mod Targets
+mod LowestParts
+mod WordPieces
+mod StatementLaws
+mod StatementFound
+mod StatementRead
+mod StatementOutcomes
 mod SourceReading
-mod StatementReading
-mod ValueReading

@@ -1,77 +1,80 @@
 -- The program that is read is the one that the source is.
-use Rattle.std.proofs.Common.{◌≡◌, ℕ, ◌<◌, Bool, true, false, List, [], ◌∷◌, length, map, Option, Some, None, refl, sym, ap, ◌∙◌, subst, arith}
+use Rattle.std.proofs.Common.{◌≡◌, ℕ, Bool, true, false, List, [], ◌∷◌, map, Option, Some, None, refl, sym, ap, ◌∙◌, subst}
 use Rattle.std.specs.Prelude.{◌==◌, if◌then◌else◌}
 use Rattle.std.specs.Option.{option_map, option_and_then}
+use Rattle.std.proofs.lemmas.Bool.{eqb-true, eq-eqb}
 use Rattle.text_base.specs.Cards.{Card, cards}
 use Rattle.text_base.specs.Kept.{is_format}
 use Rattle.text_base.specs.LineRefusals.{card_refusals}
 use Rattle.text_base.specs.Pieces.{Piece, IsPieces}
-use Rattle.text_base.specs.declared.limits.TheConstants.{GREATEST_COUNT}
 use Rattle.text_base.specs.declared.refusal.Place.{Place}
 use Rattle.text_base.specs.declared.refusal.Refusal.{Refusal}
 use Rattle.text_base.proofs.Optional.{went, mapped}
-use Rattle.tree77.specs.Source.{SpellsCard, SpellsCode, SpellsUnit, IsSource}
-use Rattle.tree77.specs.Spelling.{Statement, program, action, continue, end}
+use Rattle.tree77.specs.Lexemes.{Part}
+use Rattle.tree77.specs.Source.{SpellsCard, IsRefusedCard, SpellsBuilt, SpellsCode, SpellsUnit, IsSource}
+use Rattle.tree77.specs.Spelling.{Built, program, action, continue, end_of_unit}
+use Rattle.tree77.specs.Statements.{Statement}
 use Rattle.tree77.specs.Tree as tree
 use Rattle.tree77.specs.Tree.{simple, Code, done, item, SourceUnit, SourceProgram}
 use Rattle.tree77.specs.Typing.{is_typed}
 use Rattle.scan77.specs.PieceReading.{pieces_of}
-use Rattle.parse77.specs.Reading.{read_statement, read_card, read_of, Ended, join_code, read_code, unit_with, read_unit, file_statements, typed_unit, unless_refused, read_source}
-use Rattle.parse77.proofs.StatementReading.{Laws, is_spelled, is_read}
+use Rattle.parse77.specs.Reading.{Outcome, accepted, rejected, outcome_of, card_outcome, built_in}
+use Rattle.parse77.specs.SourceReading.{read_card, read_of, Ended, join_code, read_code, unit_with, read_unit, file_statements, typed_unit, unless_refused, read_source}
+use Rattle.parse77.proofs.StatementOutcomes.{Reads, spelled, read, refused, found_refused}
 
--- what is known of the pieces of statements, which are short where they are FORMATs
+-- what is known of the pieces of statements
 pub record CardLaws : Type 0 where
-  pub pieces_found : (label : ℕ) (text : List ℕ) → (is_format label text ≡ true → length text < GREATEST_COUNT) → IsPieces (is_format label text) text (pieces_of label text)
-  pub pieces_only : (label : ℕ) (text : List ℕ) (pieces : List Piece) → (is_format label text ≡ true → length text < GREATEST_COUNT) → IsPieces (is_format label text) text pieces → pieces ≡ pieces_of label text
+  pub pieces_found : (label : ℕ) (text : List ℕ) → IsPieces (is_format label text) text (pieces_of label text)
+  pub pieces_only : (label : ℕ) (text : List ℕ) (pieces : List Piece) → IsPieces (is_format label text) text pieces → pieces ≡ pieces_of label text
 
--- a statement without a label is no FORMAT
-no_format : (label : ℕ) (text : List ℕ) → label ≡ 0 → is_format label text ≡ true → length text < GREATEST_COUNT
-no_format label text none is = let e : false ≡ true = subst (λ n. is_format n text ≡ true) none is in absurd cc
-
-no_label : (n : ℕ) → (n == 0) ≡ true → n ≡ 0
-no_label n e = grind (arith, e)
-
-is_no_label : (n : ℕ) → n ≡ 0 → (n == 0) ≡ true
-is_no_label n e = grind (arith, e)
-
-module _ (l : Laws) (c : CardLaws) where
+module _ (reads : Reads) (c : CardLaws) where
   -- ---- cards
 
-  -- what is read on a card is spelled there
-  pub card_spelled : (card : Card) (s : Statement) → read_card card ≡ Some s → SpellsCard card s
-  card_spelled card s e = go (card.label == 0) refl e
-    where
-      go : (b : Bool) → (card.label == 0) ≡ b → (if b then read_statement (pieces_of card.label card.text) else None) ≡ Some s → SpellsCard card s
-      go true is e = record {
-        unlabelled = no_label card.label is;
-        pieces = pieces_of card.label card.text;
-        cut = c.pieces_found card.label card.text (no_format card.label card.text (no_label card.label is));
-        spelled = is_spelled l (pieces_of card.label card.text) s e;
-      }
-      go false is e = absurd cc
+  pub card_spelled : (card : Card) (x : Statement) → card_outcome card ≡ accepted x → SpellsCard card x
+  card_spelled card x e = record { pieces = pieces_of card.label card.text; cut = c.pieces_found card.label card.text; spelled = spelled reads card.label (pieces_of card.label card.text) x e }
 
-  -- what is spelled on a card is read there
-  pub card_read : (card : Card) (s : Statement) → SpellsCard card s → read_card card ≡ Some s
-  card_read card s spelled =
-      ap (λ b. if b then read_statement (pieces_of card.label card.text) else None) (is_no_label card.label spelled.unlabelled)
-      ∙ ap read_statement (sym (c.pieces_only card.label card.text spelled.pieces (no_format card.label card.text spelled.unlabelled) spelled.cut))
-      ∙ is_read l spelled.pieces s spelled.spelled
+  -- the outcome of a card, by any pieces of it
+  outcome_by : (card : Card) (pieces : List Piece) → IsPieces (is_format card.label card.text) card.text pieces → card_outcome card ≡ outcome_of card.label pieces
+  outcome_by card pieces cut = ap (outcome_of card.label) (sym (c.pieces_only card.label card.text pieces cut))
+
+  pub card_accepted : (card : Card) (x : Statement) → SpellsCard card x → card_outcome card ≡ accepted x
+  card_accepted card x s = outcome_by card s.pieces s.cut ∙ read reads card.label s.pieces x s.spelled
+
+  pub card_refused : (card : Card) (p : Part) → card_outcome card ≡ rejected p → IsRefusedCard card p
+  card_refused card p e = record { pieces = pieces_of card.label card.text; cut = c.pieces_found card.label card.text; refused = refused reads card.label (pieces_of card.label card.text) p e }
+
+  pub card_rejected : (card : Card) (p : Part) → IsRefusedCard card p → card_outcome card ≡ rejected p
+  card_rejected card p s = outcome_by card s.pieces s.cut ∙ found_refused reads card.label s.pieces p s.refused
+
+  -- ---- statements that are converted
+
+  pub built_spelled : (card : Card) (b : Built) → read_card card ≡ Some b → SpellsBuilt card b
+  built_spelled card b e = go (card.label == 0) refl (card_outcome card) refl e
+    where
+      go : (t : Bool) → (card.label == 0) ≡ t → (o : Outcome) → card_outcome card ≡ o → (if t then built_in o else None) ≡ Some b → SpellsBuilt card b
+      go true is (accepted x) was e = record { unlabelled = eqb-true card.label 0 is; statement = x; spelled = card_spelled card x was; built = e }
+      go true is (rejected p) was e = absurd cc
+      go false is o was e = absurd cc
+
+  pub built_read : (card : Card) (b : Built) → SpellsBuilt card b → read_card card ≡ Some b
+  built_read card b s =
+      ap (λ t. if t then built_in (card_outcome card) else None) (eq-eqb card.label 0 s.unlabelled) ∙ ap built_in (card_accepted card s.statement s.spelled) ∙ s.built
 
   -- ---- lists
 
-  join_spelled : (card : Card) (s : Statement) (rest : List Card) (more : Option Ended) (r : Ended) → ((q : Ended) → more ≡ Some q → SpellsCode rest q.0 q.1)
+  join_spelled : (card : Card) (s : Built) (rest : List Card) (more : Option Ended) (r : Ended) → ((q : Ended) → more ≡ Some q → SpellsCode rest q.0 q.1)
       → read_card card ≡ Some s → join_code card.place s (map read_of rest) more ≡ Some r → SpellsCode (card ∷ rest) r.0 r.1
   join_spelled card (program x) rest more r follows was e = absurd cc
   join_spelled card continue rest more r follows was e =
       let m = mapped more (λ (q : Ended). (item 0 card.place tree.continue q.0, q.1)) r e in
-      subst (λ (q : Ended). SpellsCode (card ∷ rest) q.0 q.1) m.is (card_spelled card continue was, refl, refl, follows m.from m.was)
-  join_spelled card end [] more r follows was e =
+      subst (λ (q : Ended). SpellsCode (card ∷ rest) q.0 q.1) m.is (built_spelled card continue was, refl, refl, follows m.from m.was)
+  join_spelled card end_of_unit [] more r follows was e =
       let same : ◌≡◌ {A = Ended} (done, card.place) r = cc in
-      subst (λ (q : Ended). SpellsCode (card ∷ []) q.0 q.1) same (card_spelled card end was, refl, refl)
-  join_spelled card end (next ∷ rest) more r follows was e = absurd cc
+      subst (λ (q : Ended). SpellsCode (card ∷ []) q.0 q.1) same (built_spelled card end_of_unit was, refl, refl)
+  join_spelled card end_of_unit (next ∷ rest) more r follows was e = absurd cc
   join_spelled card (action a) rest more r follows was e =
       let m = mapped more (λ (q : Ended). (item 0 card.place (simple a) q.0, q.1)) r e in
-      subst (λ (q : Ended). SpellsCode (card ∷ rest) q.0 q.1) m.is (card_spelled card (action a) was, refl, refl, follows m.from m.was)
+      subst (λ (q : Ended). SpellsCode (card ∷ rest) q.0 q.1) m.is (built_spelled card (action a) was, refl, refl, follows m.from m.was)
 
   code_spelled : (cs : List Card) (r : Ended) → read_code (map read_of cs) ≡ Some r → SpellsCode cs r.0 r.1
   code_spelled [] r e = absurd cc
@@ -81,30 +84,30 @@ module _ (l : Laws) (c : CardLaws) where
 
   code_read : (cs : List Card) (code : Code) (last : Place) → SpellsCode cs code last → read_code (map read_of cs) ≡ Some (code, last)
   code_read [] code last s = absurd s
-  code_read (card ∷ []) done last s = ap (option_and_then (λ t. join_code card.place t [] None)) (card_read card end s.0) ∙ (λ i. Some (done, sym s.1 i))
+  code_read (card ∷ []) done last s = ap (option_and_then (λ t. join_code card.place t [] None)) (built_read card end_of_unit s.0) ∙ (λ i. Some (done, sym s.1 i))
   code_read (card ∷ next ∷ rest) done last s = absurd (nonempty s.2)
     where
       nonempty : next ∷ rest ≡ [] → ⊥
       nonempty e = cc
   code_read (card ∷ rest) (item label here (simple a) more) last s =
-      ap (option_and_then (λ t. join_code card.place t (map read_of rest) (read_code (map read_of rest)))) (card_read card (action a) s.0)
+      ap (option_and_then (λ t. join_code card.place t (map read_of rest) (read_code (map read_of rest)))) (built_read card (action a) s.0)
       ∙ ap (option_map (λ (r : Ended). (item 0 card.place (simple a) r.0, r.1))) (code_read rest more last s.3)
       ∙ (λ i. Some (item (sym s.1 i) (sym s.2 i) (simple a) more, last))
   code_read (card ∷ rest) (item label here tree.continue more) last s =
-      ap (option_and_then (λ t. join_code card.place t (map read_of rest) (read_code (map read_of rest)))) (card_read card continue s.0)
+      ap (option_and_then (λ t. join_code card.place t (map read_of rest) (read_code (map read_of rest)))) (built_read card continue s.0)
       ∙ ap (option_map (λ (r : Ended). (item 0 card.place tree.continue r.0, r.1))) (code_read rest more last s.3)
       ∙ (λ i. Some (item (sym s.1 i) (sym s.2 i) tree.continue more, last))
 
   -- ---- units
 
-  unit_with_spelled : (card : Card) (rest : List Card) (s : Statement) (ended : Option Ended) (u : SourceUnit) → ((r : Ended) → ended ≡ Some r → SpellsCode rest r.0 r.1)
+  unit_with_spelled : (card : Card) (rest : List Card) (s : Built) (ended : Option Ended) (u : SourceUnit) → ((r : Ended) → ended ≡ Some r → SpellsCode rest r.0 r.1)
       → read_card card ≡ Some s → unit_with card.place s ended ≡ Some u → SpellsUnit (card ∷ rest) u
   unit_with_spelled card rest (program x) ended u follows was e =
       let m = mapped ended (λ (r : Ended). record { name = x; place = card.place; code = r.0; end = r.1 }) u e in
-      subst (SpellsUnit (card ∷ rest)) m.is (card_spelled card (program x) was, refl, follows m.from m.was)
+      subst (SpellsUnit (card ∷ rest)) m.is (built_spelled card (program x) was, refl, follows m.from m.was)
   unit_with_spelled card rest (action a) ended u follows was e = absurd cc
   unit_with_spelled card rest continue ended u follows was e = absurd cc
-  unit_with_spelled card rest end ended u follows was e = absurd cc
+  unit_with_spelled card rest end_of_unit ended u follows was e = absurd cc
 
   unit_spelled : (cs : List Card) (u : SourceUnit) → read_unit (map read_of cs) ≡ Some u → SpellsUnit cs u
   unit_spelled [] u e = absurd cc
@@ -115,7 +118,7 @@ module _ (l : Laws) (c : CardLaws) where
   unit_is_read : (cs : List Card) (u : SourceUnit) → SpellsUnit cs u → read_unit (map read_of cs) ≡ Some u
   unit_is_read [] u s = absurd s
   unit_is_read (card ∷ rest) u s =
-      ap (option_and_then (λ t. unit_with card.place t (read_code (map read_of rest)))) (card_read card (program u.name) s.0)
+      ap (option_and_then (λ t. unit_with card.place t (read_code (map read_of rest)))) (built_read card (program u.name) s.0)
       ∙ ap (option_map (λ (r : Ended). record { name = u.name; place = card.place; code = r.0; end = r.1 })) (code_read rest u.code u.end s.2)
       ∙ ap (λ (p : Place). Some (record { name = u.name; place = p; code = u.code; end = u.end })) (sym s.1)
 

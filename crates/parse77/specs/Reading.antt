@@ -1,151 +1,161 @@
--- The reading of a source as a function: what it gives is what the source spells, and nothing else is spelled.
-use Rattle.std.specs.Prelude.{ℕ, Bool, false, ◌&&◌, ◌==◌, List, [], ◌∷◌, codes, map, Option, Some, None, if◌then◌else◌}
+-- The reading of a statement as a function: what it gives is what the statement spells, or why it is refused.
+use Rattle.std.specs.Prelude.{ℕ, Bool, true, false, ◌==◌, List, [], ◌∷◌, ◌++◌, codes, take, flat_map, Option, Some, None, if◌then◌else◌}
 use Rattle.std.specs.Option.{option_map, option_and_then}
 use Rattle.std.specs.Str.{bytes_eq}
-use Rattle.text_base.specs.Cards.{Card, cards}
-use Rattle.text_base.specs.Chars.{is_name}
-use Rattle.text_base.specs.LineRefusals.{card_refusals}
-use Rattle.text_base.specs.Pieces.{Piece}
-use Rattle.text_base.specs.Trees.{Expr, name, assign, stop}
-use Rattle.text_base.specs.declared.refusal.Place.{Place}
-use Rattle.text_base.specs.declared.refusal.Refusal.{Refusal}
+use Rattle.text_base.specs.Cards.{Card}
+use Rattle.text_base.specs.Pieces.{Piece, piece_text}
+use Rattle.text_base.specs.declared.limits.TheConstants.{MOST_SHOWN}
+use Rattle.text_base.specs.declared.refusal.Cause.TheVariants.{NotAStatement}
+use Rattle.tree77.specs.Forms.{ahead, one, text}
+use Rattle.tree77.specs.FormTable as sort
+use Rattle.tree77.specs.FormTable.{Sort}
+use Rattle.tree77.specs.FormWords.{unsupported}
 use Rattle.tree77.specs.Kinds as kind
 use Rattle.tree77.specs.Kinds.{Kind, outline_of}
-use Rattle.tree77.specs.Tokens.{Token, TokenKind, run, digits, kept, mark}
-use Rattle.tree77.specs.Tree as tree
-use Rattle.tree77.specs.Tree.{Code, done, item, SourceUnit, SourceProgram}
-use Rattle.tree77.specs.Spelling.{Statement, program, action, continue, end}
-use Rattle.tree77.specs.Typing.{is_typed}
+use Rattle.tree77.specs.Lexemes.{Part, first_lowest}
+use Rattle.tree77.specs.Spelling.{Sorts, Built, built_of, sort_in, keyword_sorts, size_sorts, stand_in, shown_word}
+use Rattle.tree77.specs.Statements as s
+use Rattle.tree77.specs.Statements.{Statement, header, declared, simple, guarded, if_then, end}
 use Rattle.scan77.specs.KindReading.{read_kind}
 use Rattle.scan77.specs.PieceReading.{pieces_of}
-use Rattle.scan77.specs.PieceSlice.{behind_plain}
-use Rattle.scan77.specs.TokenReading.{read_tokens, no_token}
-use Rattle.expr77.specs.Outcome.{Outcome, accepted, refused, outcome_of}
+use Rattle.scan77.specs.PieceSlice.{behind_plain, split_group, split_size}
+use Rattle.expr77.specs.Gathering.{keep}
+use Rattle.format77.specs.Reading.{format_of}
+use Rattle.format77.specs.TextReading.{items_and_parts}
+use Rattle.forms77.specs.Reading.{parts_in}
+use Rattle.forms77.specs.Whole.{whole_of}
 
--- ---- statements
+-- what pieces are read as, with the lowest part of them that is refused; nothing where they spell nothing, even with such parts
+abbrev pub Read : Type 0
+Read = Option (Statement × Option Part)
 
--- the expression, where one is accepted
-abbrev pub accepted_in : Outcome → Option Expr
-accepted_in (accepted x) = Some x
-accepted_in (refused p) = None
+-- ---- statements but logical IF
 
--- a token that is a name
-abbrev pub is_name_token : TokenKind → List ℕ → Bool
-is_name_token run text = is_name text
-is_name_token digits text = false
-is_name_token kept text = false
-is_name_token mark text = false
+-- behind a word: the form of a sort
+abbrev pub read_behind : List ℕ → Sort → List Piece → Read
+read_behind word k pieces = option_and_then (whole_of k) (behind_plain word pieces)
 
--- a token that is an equals sign
-abbrev pub is_equals_token : TokenKind → List ℕ → Bool
-is_equals_token run text = false
-is_equals_token digits text = false
-is_equals_token kept text = false
-is_equals_token mark text = bytes_eq text (codes "=")
+-- FORMAT
+abbrev pub read_body : List Piece → Read
+read_body pieces = option_map (λ r. (declared (s.format r.0), first_lowest r.1)) (items_and_parts (format_of 0 pieces))
 
--- a name, an equals sign and an expression
-abbrev pub read_assign : List Token → Option Statement
-read_assign [] = None
-read_assign (t ∷ []) = None
-read_assign (t ∷ e ∷ rest) =
-    if is_name_token t.kind t.text && is_equals_token e.kind e.text then option_map (λ x. action (assign (name t.text) x)) (accepted_in (outcome_of rest)) else None
+abbrev pub read_format : List Piece → Read
+read_format pieces = option_and_then read_body (behind_plain (codes "FORMAT") pieces)
 
--- behind PROGRAM: a name and nothing more
-abbrev pub read_header : List Token → Option Statement
-read_header [] = None
-read_header (t ∷ []) = if is_name_token t.kind t.text then Some (program t.text) else None
-read_header (t ∷ u ∷ rest) = None
+-- a header with the type that stands before it
+abbrev pub with_type : Statement → Statement → Option Statement
+with_type (declared (s.typed t [])) (header (s.function None x ds)) = Some (header (s.function (Some t) x ds))
+with_type _ _ = None
 
--- behind a statement that is one word: nothing
-abbrev pub if_nothing : Statement → List Piece → Option Statement
-if_nothing s [] = Some s
-if_nothing s (p ∷ rest) = None
+-- the lower of two parts, the first of equal ones
+abbrev pub lower_of : Option Part → Option Part → Option Part
+lower_of first second = keep first (parts_in second)
 
--- the statement that begins with a keyword, by the pieces behind it
-abbrev pub read_behind : List ℕ → List Piece → Option Statement
-read_behind word rest =
-    if bytes_eq word (codes "PROGRAM") then option_and_then read_header (read_tokens rest no_token)
-    else (if bytes_eq word (codes "CONTINUE") then if_nothing continue rest
-    else (if bytes_eq word (codes "STOP") then if_nothing (action stop) rest
-    else (if bytes_eq word (codes "END") then if_nothing end rest
-    else None)))
+-- two parts of a statement as one, where they can be one
+abbrev pub joined : (Statement → Statement → Option Statement) → Read → Read → Read
+joined join first second = option_and_then (λ a. option_and_then (λ b. option_map (λ x. (x, lower_of a.1 b.1)) (join a.0 b.0)) second) first
 
--- the statement of some kind that the pieces spell
-abbrev pub read_as : Kind → List Piece → Option Statement
-read_as kind.format pieces = None
-read_as kind.loop pieces = None
-read_as kind.assign pieces = option_and_then read_assign (read_tokens pieces no_token)
-read_as (kind.keyword word) pieces = option_and_then (read_behind word) (behind_plain word pieces)
-read_as (kind.unsupported word) pieces = None
-read_as (kind.refused_function type) pieces = None
-read_as kind.nothing pieces = None
+-- behind a type: its length or none, FUNCTION, a name and dummies
+abbrev pub read_sized : Sort → List Piece × List Piece → Read
+read_sized k parts = joined with_type (whole_of k parts.0) (read_behind (codes "FUNCTION") sort.function_sort parts.1)
 
--- the statement that the pieces spell
-unfoldable pub read_statement : List Piece → Option Statement
-read_statement pieces = read_as (read_kind 0 (outline_of pieces)) pieces
+abbrev pub read_header : Sort → List Piece → Read
+read_header k pieces = option_and_then (read_sized k) (split_size pieces)
 
--- the statement that a card without a label spells
-abbrev pub read_card : Card → Option Statement
-read_card card = if card.label == 0 then read_statement (pieces_of card.label card.text) else None
+-- behind the type, if it stands here, and else as the others say
+abbrev pub behind_type : Option (List Piece) → Sort → Read → Read
+behind_type None k others = others
+behind_type (Some rest) k others = read_header k rest
 
--- a statement of a file as it was read: its place, and what it spells where it has no label and spells something
-pub record ReadCard : Type 0 where
-  pub place : Place
-  pub spelled : Option Statement
+-- the first of some types that stands here
+abbrev pub read_typed : Sorts → List Piece → Read
+read_typed [] pieces = None
+read_typed (k ∷ ks) pieces = behind_type (behind_plain k.0 pieces) k.1 (read_typed ks pieces)
 
--- what is read of a statement
-abbrev pub read_of : Card → ReadCard
-read_of card = record { place = card.place; spelled = read_card card }
+-- FUNCTION without a type, if it stands here, and else with one
+abbrev pub untyped_or : Option (List Piece) → Read → Read
+untyped_or None typed = typed
+untyped_or (Some rest) typed = whole_of sort.function_sort rest
 
--- ---- lists and units
+abbrev pub read_function : List Piece → Read
+read_function pieces = untyped_or (behind_plain (codes "FUNCTION") pieces) (read_typed size_sorts pieces)
 
--- a list with the place of its END
-abbrev pub Ended : Type 0
-Ended = Code × Place
+-- behind the condition of an IF: three labels, THEN, or what stands under it
+abbrev pub read_branch : (List Piece → List Piece → Read) → List Piece → List Piece × List Piece → Read
+read_branch under pieces parts =
+    if ahead (one (codes "0")) parts.1 then whole_of sort.arithmetic_sort pieces
+    else (if ahead (text (codes "THEN") (0 ∷ [])) parts.1 then whole_of sort.then_sort pieces
+    else under parts.0 parts.1)
 
--- END ends the list where nothing follows it
-abbrev pub ended_at : Place → List ReadCard → Option Ended
-ended_at last [] = Some (done, last)
-ended_at last (next ∷ rest) = None
+abbrev pub read_if : (List Piece → List Piece → Read) → List Piece → Read
+read_if under pieces = option_and_then (λ rest. option_and_then (read_branch under rest) (split_group rest)) (behind_plain (codes "IF") pieces)
 
--- one statement more, which ends the list or goes before those that follow
-abbrev pub join_code : Place → Statement → List ReadCard → Option Ended → Option Ended
-join_code here (program x) rest more = None
-join_code here (action a) rest more = option_map (λ (r : Ended). (item 0 here (tree.simple a) r.0, r.1)) more
-join_code here continue rest more = option_map (λ (r : Ended). (item 0 here tree.continue r.0, r.1)) more
-join_code here end rest more = ended_at here rest
+-- a statement that begins with this keyword
+abbrev pub read_keyword : (List Piece → List Piece → Read) → List ℕ → List Piece → Read
+read_keyword under word pieces =
+    if bytes_eq word (codes "FUNCTION") then read_function pieces
+    else (if bytes_eq word (codes "IF") then read_if under pieces
+    else option_and_then (λ k. read_behind word k pieces) (sort_in keyword_sorts word))
 
--- the list of some statements
-abbrev pub read_code : List ReadCard → Option Ended
-read_code [] = None
-read_code (read ∷ rest) = option_and_then (λ s. join_code read.place s rest (read_code rest)) read.spelled
+-- a statement that is refused as a whole, with the word that its refusal shows
+abbrev pub read_refused : Statement → List ℕ → Read
+read_refused x word = Some (x, Some (unsupported word))
 
--- the unit that begins with a statement, where this list stands behind it
-abbrev pub unit_with : Place → Statement → Option Ended → Option SourceUnit
-unit_with here (program x) ended = option_map (λ (r : Ended). record { name = x; place = here; code = r.0; end = r.1 }) ended
-unit_with here (action a) ended = None
-unit_with here continue ended = None
-unit_with here end ended = None
+-- a statement of this kind; `under` reads what stands under a logical IF, by the condition and the pieces behind it
+abbrev pub read_as : (List Piece → List Piece → Read) → Kind → List Piece → Read
+read_as under kind.format pieces = read_format pieces
+read_as under kind.loop pieces = read_behind (codes "DO") sort.do_sort pieces
+read_as under kind.assign pieces = whole_of sort.assignment_sort pieces
+read_as under (kind.keyword word) pieces = read_keyword under word pieces
+read_as under (kind.unsupported word) pieces = read_refused (stand_in word) (shown_word word)
+read_as under (kind.refused_function type) pieces = read_refused end type
+read_as under kind.nothing pieces = None
 
--- the main program of some statements: PROGRAM, a list, and END
-abbrev pub read_unit : List ReadCard → Option SourceUnit
-read_unit [] = None
-read_unit (read ∷ rest) = option_and_then (λ s. unit_with read.place s (read_code rest)) read.spelled
+-- ---- logical IF
 
--- the statements of a file as they are read
-abbrev pub file_statements : ℕ → List ℕ → List ReadCard
-file_statements file bytes = map read_of (cards file bytes)
+-- no statement of its own stands under a statement that is under a logical IF
+abbrev pub no_other : List Piece → List Piece → Read
+no_other front under = None
 
--- the unit, where its names are those of integer variables
-abbrev pub typed_unit : SourceUnit → Option SourceUnit
-typed_unit unit = if is_typed unit then Some unit else None
+-- a condition with a simple statement
+abbrev pub guards : Statement → Statement → Option Statement
+guards (if_then e) (simple a) = Some (guarded e a)
+guards _ _ = None
 
--- what is read where nothing is refused
-abbrev pub unless_refused : {X : Type 0} → List Refusal → Option X → Option X
-unless_refused [] read = read
-unless_refused (first ∷ rest) read = None
+-- a condition, and the statement behind it
+abbrev pub read_guarded : List Piece → List Piece → Read
+read_guarded front under = joined guards (whole_of sort.condition_sort front) (read_as no_other (read_kind 0 (outline_of under)) under)
 
--- the program that the bytes of a file are the source of
-abbrev pub read_source : ℕ → List ℕ → Option SourceProgram
-read_source file bytes =
-    unless_refused (card_refusals file bytes) (option_map (λ (unit : SourceUnit). record { units = unit ∷ [] }) (option_and_then typed_unit (read_unit (file_statements file bytes))))
+-- ---- all statements
+
+-- the statement with this label that the pieces spell, with the lowest part of them that is refused
+unfoldable pub read_statement : ℕ → List Piece → Read
+read_statement label pieces = read_as read_guarded (read_kind label (outline_of pieces)) pieces
+
+-- what is read, or why it is refused
+pub data Outcome : Type 0 where
+  accepted : Statement → Outcome
+  rejected : Part → Outcome
+
+abbrev pub unless_part : Statement → Option Part → Outcome
+unless_part x None = accepted x
+unless_part x (Some p) = rejected p
+
+abbrev pub outcome_from : List Piece → Read → Outcome
+outcome_from pieces None = rejected (record { cause = NotAStatement; shown = take MOST_SHOWN (flat_map piece_text pieces) })
+outcome_from pieces (Some r) = unless_part r.0 r.1
+
+abbrev pub outcome_of : ℕ → List Piece → Outcome
+outcome_of label pieces = outcome_from pieces (read_statement label pieces)
+
+-- the outcome of a card
+abbrev pub card_outcome : Card → Outcome
+card_outcome card = outcome_of card.label (pieces_of card.label card.text)
+
+-- the statement that is converted, if it is one and has no label
+abbrev pub built_in : Outcome → Option Built
+built_in (accepted x) = built_of x
+built_in (rejected p) = None
+
+abbrev pub built_at : ℕ → Outcome → Option Built
+built_at label outcome = if label == 0 then built_in outcome else None

@@ -9,10 +9,10 @@ use Rattle.tree77.specs.Plain.{unit_of}
 use Rattle.tree77.specs.Source.{IsSource}
 use Rattle.tree77.specs.Tree.{SourceUnit, SourceProgram}
 use Rattle.tree77.specs.declared.tree.Unit77.{Unit77}
-use Rattle.parse77.specs.Reading.{read_of, file_statements, read_unit, typed_unit, unless_refused, read_source}
+use Rattle.parse77.specs.SourceReading.{read_of, file_statements, read_unit, typed_unit, unless_refused, read_source}
 use Rattle.project_set.specs.Comments.{groups_at, ArePlaced}
 use Rattle.project_set.specs.Conversion.{IsConvertible}
-use Rattle.project_set.specs.Refusals.{statement_refusals, unit_refusals}
+use Rattle.project_set.specs.Refusals.{statement_refusals, unbuilt_refusals, unit_refusals}
 use Rattle.project_set.specs.Rewrite.{comments_from}
 use Rattle.project_set.specs.declared.comments.Comments.{Comments}
 use Rattle.project_set.proofs.Placing.{one_unit}
@@ -24,14 +24,14 @@ abbrev pub SourceFound : Type 0
 SourceFound = (file : ℕ) (bytes : List ℕ) (p : SourceProgram) → read_source file bytes ≡ Some p → IsSource file bytes p
 
 -- a program whose lines and statements are accepted is converted
-pub converted : SourceFound → (bytes : List ℕ) (u : SourceUnit) → card_refusals 0 bytes ≡ [] → statement_refusals (cards 0 bytes) ≡ [] → read_unit (file_statements 0 bytes) ≡ Some u → IsConvertible bytes (one_unit u)
-converted found bytes u lines statements unit =
-    let typed = unit_is_typed (cards 0 bytes) u statements unit in
+pub converted : SourceFound → (bytes : List ℕ) (u : SourceUnit) → card_refusals 0 bytes ≡ [] → statement_refusals (cards 0 bytes) ≡ [] → unbuilt_refusals (cards 0 bytes) ≡ [] → read_unit (file_statements 0 bytes) ≡ Some u → IsConvertible bytes (one_unit u)
+converted found bytes u lines statements built unit =
+    let typed = unit_is_typed (cards 0 bytes) u built unit in
     let read : read_source 0 bytes ≡ Some (one_unit u) =
     ap (λ rs. unless_refused rs (option_map one_unit (option_and_then typed_unit (read_unit (file_statements 0 bytes))))) lines
     ∙ ap (λ o. option_map one_unit (option_and_then typed_unit o)) unit
     ∙ ap (λ b. option_map one_unit (if b then Some u else None)) typed in
-    let none : Accepted bytes = record { lines = lines; statements = statements; unit = ap (unit_refusals 0) unit } in
+    let none : Accepted bytes = record { lines = lines; statements = statements; built = built; unit = ap (unit_refusals 0) unit } in
     record { is_source = found 0 bytes (one_unit u) read; accepted = nothing_refused bytes none }
 
 length_groups : (cs : List Comment) (k n : ℕ) → length (groups_at cs k n) ≡ n

@@ -13,6 +13,7 @@ pub mod RefusalLemmas
 pub mod ShortPieces
 pub mod ShortRemarks
 pub mod OperandLemmas
+pub mod FormLemmas
 pub mod SpellingLemmas
 pub mod ShortLineLemmas
 pub mod ProperLemmas

@@ -109,7 +109,7 @@ nested_kept (suc n) t x nested sound = logical_kept (Primary (Nested n)) (primar
 -- ---- lexemes
 
 -- the first characters of a word are a name
-word_is_name : (word : List ℕ) → is_word word ≡ true → is_name (take 31 word) ≡ true
+pub word_is_name : (word : List ℕ) → is_word word ≡ true → is_name (take 31 word) ≡ true
 word_is_name [] e = absurd cc
 word_is_name (c ∷ t) e =
     let b = and_parts (is_upper c) (list_all is_name_byte t) e in

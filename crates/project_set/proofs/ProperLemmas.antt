@@ -109,6 +109,6 @@ program_is_proper cs u short s typed = record {
 pub written_is_proper : CardOnly → WrittenIsProper
 written_is_proper only bytes q c =
     let s = c.is_source in
-    let unit = unit_is_spelled only (cards 0 bytes) s.unit (accepted bytes c.accepted).statements s.spelled in
+    let unit = unit_is_spelled only (cards 0 bytes) s.unit (accepted bytes c.accepted).built s.spelled in
     subst (λ (r : SourceProgram). IsProper (written (comments bytes) r)) (sym s.whole)
     (program_is_proper (comments bytes) s.unit (comments_are_short bytes s.accepted) unit s.typed)

@@ -13,12 +13,12 @@ use Rattle.text_base.specs.Trees.{Action}
 use Rattle.text_base.specs.declared.refusal.Place.{Place}
 use Rattle.text_base.specs.declared.refusal.Refusal.{Refusal}
 use Rattle.tree77.specs.Tree.{SourceUnit}
-use Rattle.tree77.specs.Spelling.{Statement, program, action, continue, end}
+use Rattle.tree77.specs.Spelling.{Built, program, action, continue, end_of_unit}
 use Rattle.text_base.specs.Names.{action_names}
 use Rattle.tree77.specs.Typing.{code_names, is_variable, is_typed}
-use Rattle.parse77.specs.Reading.{ReadCard, read_card, read_of, file_statements, Ended, join_code, read_code, unit_with, read_unit}
+use Rattle.parse77.specs.SourceReading.{ReadCard, read_card, read_of, file_statements, Ended, join_code, read_code, unit_with, read_unit}
 use Rattle.parse77.specs.Unit.{header_name}
-use Rattle.project_set.specs.Refusals.{program_name, is_free_name, is_built_action, is_short, is_built_statement, is_built_as, is_built_card, not_built_at, statement_refusals, unit_refusals, first_of, refusals}
+use Rattle.project_set.specs.Refusals.{program_name, is_free_name, is_built_action, is_short, is_built_statement, is_built_as, is_built_card, not_built_at, statement_refusals, unbuilt_refusals, unit_refusals, first_of, source_refusals, refusals}
 
 -- ---- phases
 
@@ -56,16 +56,19 @@ lines_accepted bytes e = go (nat_lt 16777216 (length bytes)) refl e
 pub record Accepted (bytes : List ℕ) : Type 0 where
   pub lines : card_refusals 0 bytes ≡ []
   pub statements : statement_refusals (cards 0 bytes) ≡ []
+  pub built : unbuilt_refusals (cards 0 bytes) ≡ []
   pub unit : unit_refusals 0 (read_unit (file_statements 0 bytes)) ≡ []
 
 pub accepted : (bytes : List ℕ) → refusals bytes ≡ [] → Accepted bytes
 accepted bytes e =
-    let first = first_nothing (files_refusals 0 0 (bytes ∷ [])) (first_of (statement_refusals (cards 0 bytes)) (unit_refusals 0 (read_unit (file_statements 0 bytes)))) e in
-    let second = first_nothing (statement_refusals (cards 0 bytes)) (unit_refusals 0 (read_unit (file_statements 0 bytes))) first.1 in
-    record { lines = sym (one_file bytes) ∙ first.0; statements = second.0; unit = second.1 }
+    let unit = unit_refusals 0 (read_unit (file_statements 0 bytes)) in
+    let first = first_nothing (files_refusals 0 0 (bytes ∷ [])) (source_refusals (cards 0 bytes) (read_unit (file_statements 0 bytes))) e in
+    let second = first_nothing (statement_refusals (cards 0 bytes)) (first_of (unbuilt_refusals (cards 0 bytes)) unit) first.1 in
+    let third = first_nothing (unbuilt_refusals (cards 0 bytes)) unit second.1 in
+    record { lines = sym (one_file bytes) ∙ first.0; statements = second.0; built = third.0; unit = third.1 }
 
 pub nothing_refused : (bytes : List ℕ) → Accepted bytes → refusals bytes ≡ []
-nothing_refused bytes a = nothing_first _ _ (one_file bytes ∙ a.lines) (nothing_first _ _ a.statements a.unit)
+nothing_refused bytes a = nothing_first _ _ (one_file bytes ∙ a.lines) (nothing_first _ _ a.statements (nothing_first _ _ a.built a.unit))
 
 -- ---- statements
 
@@ -100,7 +103,7 @@ abbrev IsTypedList : List ℕ → Option Ended → Type 0
 IsTypedList unit ended = IfSome ended (λ r. list_all (is_variable unit) (code_names r.0) ≡ true)
 
 -- one statement more that can be converted
-typed_join : (unit : List ℕ) (here : Place) (s : Statement) (rest : List ReadCard) (more : Option Ended)
+typed_join : (unit : List ℕ) (here : Place) (s : Built) (rest : List ReadCard) (more : Option Ended)
     → is_built_as (Some unit) (Some s) ≡ true → IsTypedList unit more → IsTypedList unit (join_code here s rest more)
 typed_join unit here (program x) rest more built typed = tt
 typed_join unit here (action a) rest None built typed = tt
@@ -108,8 +111,8 @@ typed_join unit here (action a) rest (Some r) built typed =
     list_all-append (is_variable unit) (action_names a) (code_names r.0) ∙ and_from _ _ (built_action (Some unit) a built).free typed
 typed_join unit here continue rest None built typed = tt
 typed_join unit here continue rest (Some r) built typed = typed
-typed_join unit here end [] more built typed = refl
-typed_join unit here end (next ∷ rest) more built typed = tt
+typed_join unit here end_of_unit [] more built typed = refl
+typed_join unit here end_of_unit (next ∷ rest) more built typed = tt
 
 list_is_typed : (unit : List ℕ) (cs : List Card) → list_all (is_built_card (Some unit)) cs ≡ true → IsTypedList unit (read_code (map read_of cs))
 list_is_typed unit [] built = tt
@@ -117,13 +120,13 @@ list_is_typed unit (card ∷ rest) built =
     let b = and_parts (is_built_card (Some unit) card) (list_all (is_built_card (Some unit)) rest) built in
     go (read_card card) b.0 (list_is_typed unit rest b.1)
   where
-    go : (o : Option Statement) → is_built_as (Some unit) o ≡ true → IsTypedList unit (read_code (map read_of rest))
+    go : (o : Option Built) → is_built_as (Some unit) o ≡ true → IsTypedList unit (read_code (map read_of rest))
         → IsTypedList unit (option_and_then (λ s. join_code card.place s (map read_of rest) (read_code (map read_of rest))) o)
     go None built typed = tt
     go (Some s) built typed = typed_join unit card.place s (map read_of rest) (read_code (map read_of rest)) built typed
 
 -- the first statement of a program gives its name
-typed_unit_with : (here : Place) (rest : List Card) (o : Option Statement) → list_all (is_built_card (option_and_then header_name o)) rest ≡ true
+typed_unit_with : (here : Place) (rest : List Card) (o : Option Built) → list_all (is_built_card (option_and_then header_name o)) rest ≡ true
     → IfSome (option_and_then (λ s. unit_with here s (read_code (map read_of rest))) o) (λ u. is_typed u ≡ true)
 typed_unit_with here rest None built = tt
 typed_unit_with here rest (Some (program x)) built = go (read_code (map read_of rest)) (list_is_typed x rest built)
@@ -133,10 +136,10 @@ typed_unit_with here rest (Some (program x)) built = go (read_code (map read_of 
     go (Some r) typed = typed
 typed_unit_with here rest (Some (action a)) built = tt
 typed_unit_with here rest (Some continue) built = tt
-typed_unit_with here rest (Some end) built = tt
+typed_unit_with here rest (Some end_of_unit) built = tt
 
 -- a program whose statements can all be converted has integer variables alone
-pub unit_is_typed : (cs : List Card) (u : SourceUnit) → statement_refusals cs ≡ [] → read_unit (map read_of cs) ≡ Some u → is_typed u ≡ true
+pub unit_is_typed : (cs : List Card) (u : SourceUnit) → unbuilt_refusals cs ≡ [] → read_unit (map read_of cs) ≡ Some u → is_typed u ≡ true
 unit_is_typed [] u built e = absurd cc
 unit_is_typed (card ∷ rest) u built e =
     let name = program_name (map read_of (card ∷ rest)) in

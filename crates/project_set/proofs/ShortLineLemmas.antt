@@ -8,19 +8,19 @@ use Rattle.text_base.specs.Cards.{Card, Comment}
 use Rattle.text_base.specs.Chars.{is_name}
 use Rattle.text_base.specs.Trees.{Action}
 use Rattle.text_base.specs.declared.refusal.Place.{Place}
-use Rattle.tree77.specs.Spelling.{Statement, action}
+use Rattle.tree77.specs.Spelling.{Built, action}
 use Rattle.tree77.specs.Tree.{simple, continue, Code, done, item, SourceUnit}
 use Rattle.text_base.specs.Names.{action_names}
 use Rattle.tree77.specs.Typing.{code_names, variables}
-use Rattle.tree77.specs.Source.{SpellsCard, SpellsCode, SpellsUnit}
-use Rattle.parse77.specs.Reading.{read_card, read_of}
+use Rattle.tree77.specs.Source.{SpellsBuilt, SpellsCode, SpellsUnit}
+use Rattle.parse77.specs.SourceReading.{read_card, read_of}
 use Rattle.tree90.specs.Tree as free
 use Rattle.text_base.specs.Remarks.{Remark}
 use Rattle.tree90.specs.Tree.{integer_object}
 use Rattle.tree90.specs.Plain.{CodeAndTail, with_item}
 use Rattle.tree90.specs.Printed.{action_text, stmt_text, declared_text, code_text, unit_text}
 use Rattle.tree90.specs.Proper.{IsWritableCode}
-use Rattle.project_set.specs.Refusals.{program_name, is_short, is_built_as, is_built_card, statement_refusals}
+use Rattle.project_set.specs.Refusals.{program_name, is_short, is_built_as, is_built_card, unbuilt_refusals}
 use Rattle.project_set.specs.Rewrite.{comments_from, remarks_at, written_list, written_unit}
 use Rattle.project_set.proofs.RefusalLemmas.{all_built, IsBuiltAction, built_action}
 use Rattle.project_set.proofs.Seen.{all_first}
@@ -57,11 +57,11 @@ action_and_more remarks a more short fits one rest = record {
 
 -- what the law on statements says: each statement that a card spells is the one that is read
 abbrev pub CardOnly : Type 0
-CardOnly = (card : Card) (s : Statement) → SpellsCard card s → read_card card ≡ Some s
+CardOnly = (card : Card) (b : Built) → SpellsBuilt card b → read_card card ≡ Some b
 
 module _ (only : CardOnly) (unit : Option (List ℕ)) where
   -- the parts of what can be converted of a statement that a card spells
-  built_parts : (card : Card) (a : Action) → is_built_card unit card ≡ true → SpellsCard card (action a) → IsBuiltAction unit a
+  built_parts : (card : Card) (a : Action) → is_built_card unit card ≡ true → SpellsBuilt card (action a) → IsBuiltAction unit a
   built_parts card a built spelled = built_action unit a (subst (λ o. is_built_as unit o ≡ true) (only card (action a) spelled) built)
 
   -- what is written for the statements that cards spell is short where they can be converted
@@ -72,7 +72,7 @@ module _ (only : CardOnly) (unit : Option (List ℕ)) where
       let b = and_parts (is_built_card unit card) (list_all (is_built_card unit) rest) built in
       let parts = built_parts card a b.0 s.0 in
       action_and_more (left ++ remarks_at cs k) a (written_list cs (k + 1) [] more) (left_and_here cs k left short e)
-      parts.short (action_is_plain _ a s.0.spelled parts.built) (code_is_short rest more last b.1 s.3 cs (k + 1) [] short refl)
+      parts.short (action_is_plain card a s.0 parts.built) (code_is_short rest more last b.1 s.3 cs (k + 1) [] short refl)
   code_is_short (card ∷ rest) (item label here continue more) last built s = λ cs k left short e.
       let b = and_parts (is_built_card unit card) (list_all (is_built_card unit) rest) built in
       code_is_short rest more last b.1 s.3 cs (k + 1) (left ++ remarks_at cs k) short (left_and_here cs k left short e)
@@ -85,7 +85,7 @@ module _ (only : CardOnly) (unit : Option (List ℕ)) where
       let b = and_parts (is_built_card unit card) (list_all (is_built_card unit) rest) built in
       let parts = built_parts card a b.0 s.0 in
       list_all-append is_name (action_names a) (code_names more)
-      ∙ and_from _ _ (action_is_plain _ a s.0.spelled parts.built).named (code_is_named rest more last b.1 s.3)
+      ∙ and_from _ _ (action_is_plain card a s.0 parts.built).named (code_is_named rest more last b.1 s.3)
   code_is_named (card ∷ rest) (item label here continue more) last built s =
       code_is_named rest more last (and_parts (is_built_card unit card) (list_all (is_built_card unit) rest) built).1 s.3
 
@@ -132,12 +132,12 @@ cards_are_unit only unit [] u built s = absurd s
 cards_are_unit only unit (card ∷ rest) u built s =
     let b = and_parts (is_built_card unit card) (list_all (is_built_card unit) rest) built in
     record {
-      named = header_is_named _ u.name s.0.spelled;
+      named = header_is_named card u.name s.0;
       names = code_is_named only unit rest u.code u.end b.1 s.2;
       listed = code_is_short only unit rest u.code u.end b.1 s.2;
     }
 
 -- so is the unit that cards spell of which none is refused
-pub unit_is_spelled : CardOnly → (cards : List Card) (u : SourceUnit) → statement_refusals cards ≡ [] → SpellsUnit cards u → ShortUnit u
+pub unit_is_spelled : CardOnly → (cards : List Card) (u : SourceUnit) → unbuilt_refusals cards ≡ [] → SpellsUnit cards u → ShortUnit u
 unit_is_spelled only cards u none s =
     cards_are_unit only (program_name (map read_of cards)) cards u (all_built (program_name (map read_of cards)) cards none) s

@@ -1,5 +1,5 @@
 -- What a card spells can be written where it is converted: it has no LF, and its names are names.
-use Rattle.std.proofs.Common.{◌≡◌, ℕ, ◌+◌, ◌%◌, ◌^◌, ◌<◌, pos, negsuc, true, ◌&&◌, List, [], ◌∷◌, ◌++◌, codes, refl, sym, ◌∙◌, subst, arith}
+use Rattle.std.proofs.Common.{◌≡◌, ℕ, ◌+◌, ◌%◌, ◌^◌, ◌<◌, pos, negsuc, true, ◌&&◌, List, [], ◌∷◌, ◌++◌, codes, Some, None, refl, sym, ◌∙◌, subst, arith}
 use Rattle.std.specs.Fmt.{decimal}
 use Rattle.std.specs.List.{list_all}
 use Rattle.std.proofs.lemmas.Fmt.{decimal_by_steps}
@@ -7,15 +7,19 @@ use Rattle.std.proofs.lemmas.List.Folds.{list_all-append}
 use Rattle.std.proofs.lemmas.Bool.{and_from, and_parts, leb-true}
 use Rattle.text_base.specs.Chars.{is_name}
 use Rattle.text_base.specs.Names.{expr_names, action_names}
-use Rattle.text_base.specs.Pieces.{Piece}
+use Rattle.text_base.specs.Cards.{Card}
 use Rattle.text_base.specs.Trees.{UnaryOp, plus, minus, negation, BinaryOp, Expr, int, bool, text, name, call, substring, unary, binary, paren, Action, assign, stop}
 use Rattle.text_base.specs.Trees as t
 use Rattle.text_base.specs.declared.limits.TheConstants.{GREATEST_INTEGER}
-use Rattle.tree77.specs.Spelling.{SpellsStatement, spells_program, spells_assign, spells_continue, spells_stop, spells_end, action, program}
+use Rattle.tree77.specs.Source.{SpellsBuilt}
+use Rattle.tree77.specs.Spelling.{built_of, action, program}
+use Rattle.tree77.specs.Statements as s
+use Rattle.tree77.specs.Statements.{Statement}
 use Rattle.tree90.specs.Printed.{sign_text, operator_text, expr_text, action_text}
 use Rattle.tree90.specs.Proper.{is_sign, is_additive, IsOperand, operand_int, operand_name, IsSum, only_operand, signed_operand, sum_of, IsWritableAction, writable_assign, writable_stop}
 use Rattle.project_set.specs.Refusals.{is_built_operand, is_built, is_built_action}
-use Rattle.project_set.proofs.OperandLemmas.{is_sound, expression_is_sound}
+use Rattle.project_set.proofs.FormLemmas.{IsSound, statement_is_sound}
+use Rattle.project_set.proofs.OperandLemmas.{is_sound}
 use Rattle.project_set.proofs.ShortPieces.{has_no_feed, no_feed_append, no_feed_name}
 
 -- a number in decimal has no LF
@@ -130,22 +134,76 @@ assign_is_plain x e named value = record {
   writable = writable_assign named value.sum;
 }
 
+-- an assignment that is sound and converted can be written
+assignment_is_plain : (d e : Expr) → is_built_action (assign d e) ≡ true → is_sound d ≡ true → is_sound e ≡ true → PlainAction (assign d e)
+assignment_is_plain (name x) e built left right = assign_is_plain x e left (expr_is_plain e built right)
+assignment_is_plain _ e built left right = absurd cc
+
 -- a statement that is spelled and converted can be written
-pub action_is_plain : (pieces : List Piece) (a : Action) → SpellsStatement pieces (action a) → is_built_action a ≡ true → PlainAction a
-action_is_plain pieces a (spells_program kind whole named is) built = absurd cc
-action_is_plain pieces a (spells_assign {x = x} {value = value} {e = e} kind whole named spelled is) built =
-    let same : a ≡ assign (name x) e = cc in
-    let value_built : is_built e ≡ true = subst (λ b. is_built_action b ≡ true) same built in
-    subst PlainAction (sym same) (assign_is_plain x e named (expr_is_plain e value_built (expression_is_sound value spelled.lexemes e spelled.wide)))
-action_is_plain pieces a (spells_continue kind whole is) built = absurd cc
-action_is_plain pieces a (spells_stop kind whole is) built =
-    let same : a ≡ stop = cc in subst PlainAction (sym same) (record { plain = refl; named = refl; writable = writable_stop })
-action_is_plain pieces a (spells_end kind whole is) built = absurd cc
+pub action_is_plain : (card : Card) (a : Action) → SpellsBuilt card (action a) → is_built_action a ≡ true → PlainAction a
+action_is_plain card a b built = go b.statement b.built (statement_is_sound card.label b.spelled.pieces b.statement [] b.spelled.spelled)
+  where
+    go : (s : Statement) → built_of s ≡ Some (action a) → IsSound s → PlainAction a
+    go (s.simple (s.assign d x)) e sound =
+        let same : assign d x ≡ a = cc in subst PlainAction same (assignment_is_plain d x (subst (λ b. is_built_action b ≡ true) (sym same) built) sound.0 sound.1)
+    go (s.simple (s.stop None)) e sound = let same : stop ≡ a = cc in subst PlainAction same (record { plain = refl; named = refl; writable = writable_stop })
+    go (s.simple (s.goto l)) e sound = absurd cc
+    go (s.simple (s.computed ls y)) e sound = absurd cc
+    go (s.simple (s.arithmetic y l m n)) e sound = absurd cc
+    go (s.simple s.continue) e sound = absurd cc
+    go (s.simple s.return_) e sound = absurd cc
+    go (s.simple (s.stop (Some code))) e sound = absurd cc
+    go (s.simple (s.calling f ys)) e sound = absurd cc
+    go (s.simple (s.read by ls)) e sound = absurd cc
+    go (s.simple (s.write c ls)) e sound = absurd cc
+    go (s.simple (s.print f ls)) e sound = absurd cc
+    go (s.simple (s.open_ c)) e sound = absurd cc
+    go (s.simple (s.close_ c)) e sound = absurd cc
+    go (s.simple (s.rewind c)) e sound = absurd cc
+    go (s.header (s.program y)) e sound = absurd cc
+    go (s.header (s.subroutine f ds)) e sound = absurd cc
+    go (s.header (s.function t f ds)) e sound = absurd cc
+    go (s.header (s.block_data f)) e sound = absurd cc
+    go (s.declared d) e sound = absurd cc
+    go (s.statement_function f ds y) e sound = absurd cc
+    go (s.guarded y c) e sound = absurd cc
+    go (s.if_then y) e sound = absurd cc
+    go (s.else_if y) e sound = absurd cc
+    go s.else_ e sound = absurd cc
+    go s.end_if e sound = absurd cc
+    go (s.do_ l r) e sound = absurd cc
+    go s.end e sound = absurd cc
 
 -- the name of a unit is a name
-pub header_is_named : (pieces : List Piece) (x : List ℕ) → SpellsStatement pieces (program x) → is_name x ≡ true
-header_is_named pieces x (spells_program {x = y} kind whole named is) = let same : x ≡ y = cc in subst (λ z. is_name z ≡ true) (sym same) named
-header_is_named pieces x (spells_assign kind whole named value is) = absurd cc
-header_is_named pieces x (spells_continue kind whole is) = absurd cc
-header_is_named pieces x (spells_stop kind whole is) = absurd cc
-header_is_named pieces x (spells_end kind whole is) = absurd cc
+pub header_is_named : (card : Card) (x : List ℕ) → SpellsBuilt card (program x) → is_name x ≡ true
+header_is_named card x b = go b.statement b.built (statement_is_sound card.label b.spelled.pieces b.statement [] b.spelled.spelled)
+  where
+    go : (s : Statement) → built_of s ≡ Some (program x) → IsSound s → is_name x ≡ true
+    go (s.header (s.program y)) e sound = let same : y ≡ x = cc in subst (λ z. is_name z ≡ true) same sound
+    go (s.header (s.subroutine f ds)) e sound = absurd cc
+    go (s.header (s.function t f ds)) e sound = absurd cc
+    go (s.header (s.block_data f)) e sound = absurd cc
+    go (s.simple (s.assign y z)) e sound = absurd cc
+    go (s.simple (s.stop None)) e sound = absurd cc
+    go (s.simple (s.goto l)) e sound = absurd cc
+    go (s.simple (s.computed ls y)) e sound = absurd cc
+    go (s.simple (s.arithmetic y l m n)) e sound = absurd cc
+    go (s.simple s.continue) e sound = absurd cc
+    go (s.simple s.return_) e sound = absurd cc
+    go (s.simple (s.stop (Some code))) e sound = absurd cc
+    go (s.simple (s.calling f ys)) e sound = absurd cc
+    go (s.simple (s.read by ls)) e sound = absurd cc
+    go (s.simple (s.write c ls)) e sound = absurd cc
+    go (s.simple (s.print f ls)) e sound = absurd cc
+    go (s.simple (s.open_ c)) e sound = absurd cc
+    go (s.simple (s.close_ c)) e sound = absurd cc
+    go (s.simple (s.rewind c)) e sound = absurd cc
+    go (s.declared d) e sound = absurd cc
+    go (s.statement_function f ds y) e sound = absurd cc
+    go (s.guarded y c) e sound = absurd cc
+    go (s.if_then y) e sound = absurd cc
+    go (s.else_if y) e sound = absurd cc
+    go s.else_ e sound = absurd cc
+    go s.end_if e sound = absurd cc
+    go (s.do_ l r) e sound = absurd cc
+    go s.end e sound = absurd cc

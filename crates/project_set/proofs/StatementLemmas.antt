@@ -10,10 +10,10 @@ use Rattle.text_base.specs.Cards as source
 use Rattle.text_base.specs.declared.refusal.Refusal.{Refusal}
 use Rattle.card_reader.specs.Deck.{card_of}
 use Rattle.card_reader.specs.declared.card.Card.{Card}
-use Rattle.parse77.specs.Reading.{ReadCard, read_card, read_of}
-use Rattle.parse77.specs.Statement.{statement_of, card_read}
+use Rattle.parse77.specs.SourceReading.{ReadCard, read_card, read_of}
+use Rattle.parse77.specs.Statement.{card_read}
 use Rattle.parse77.specs.declared.statement.ReadStatement.{ReadStatement}
-use Rattle.project_set.specs.Refusals.{program_name, is_built_as, is_built_card, not_built_at, statement_refusals}
+use Rattle.project_set.specs.Refusals.{program_name, is_built_as, is_built_card, not_built_at, unbuilt_refusals}
 
 -- the refusals of some statements of a program of this name
 abbrev refused_of : Option (List ℕ) → List source.Card → List Refusal
@@ -36,7 +36,7 @@ more_of unit cards card =
 module _ (cards : List Card) (statements : List ReadStatement) (same : map card_read statements ≡ map read_of (map card_of cards)) where
   -- what was read of a statement is what it spells
   spelled_at : (n : ℕ) (card : Card) (read : ReadStatement) → n < length cards → n < length statements → card ≡ get_or cards n card → read ≡ get_or statements n read
-      → option_map statement_of read.statement ≡ read_card (card_of card)
+      → (card_read read).spelled ≡ read_card (card_of card)
   spelled_at n card read lt lt2 here there =
       let right : slice_get cards n ≡ Some card = slice_get-get_or cards n card lt ∙ ap Some (sym here) in
       let left : slice_get statements n ≡ Some read = slice_get-get_or statements n read lt2 ∙ ap Some (sym there) in
@@ -50,7 +50,7 @@ module _ (cards : List Card) (statements : List ReadStatement) (same : map card_
 
   module _ (n m : ℕ) (card : Card) (read : ReadStatement) (unit : Option (List ℕ)) (built : Bool)
       (next : m ≡ n + 1) (lt : n < length cards) (lt2 : n < length statements) (here : card ≡ get_or cards n card) (there : read ≡ get_or statements n read)
-      (named : unit ≡ program_name (map read_of (map card_of cards))) (asked : built ≡ is_built_as unit (option_map statement_of read.statement)) where
+      (named : unit ≡ program_name (map read_of (map card_of cards))) (asked : built ≡ is_built_as unit (card_read read).spelled) where
     answered : is_built_card (program_name (map read_of (map card_of cards))) (card_of card) ≡ built
     answered = sym (asked ∙ ap (is_built_as unit) (spelled_at n card read lt lt2 here there) ∙ ap (λ u. is_built_card u (card_of card)) named)
 
@@ -77,7 +77,7 @@ module _ (cards : List Card) (statements : List ReadStatement) (same : map card_
         ∙ sym so_far_more
 
   -- all statements were asked
-  pub all_asked : (n : ℕ) (list : List Refusal) → n ≡ min (length cards) (length statements) → list ≡ so_far cards n → list ≡ statement_refusals (map card_of cards)
+  pub all_asked : (n : ℕ) (list : List Refusal) → n ≡ min (length cards) (length statements) → list ≡ so_far cards n → list ≡ unbuilt_refusals (map card_of cards)
   all_asked n list last before =
       let lengths : length statements ≡ length cards = sym (length-map statements card_read) ∙ ap length same ∙ length-map (map card_of cards) read_of ∙ length-map cards card_of in
       let all : n ≡ length cards = omega (arith, last, lengths) in

@@ -1,5 +1,5 @@
 -- What is refused of a file.
-use Rattle.std.specs.Prelude.{ℕ, ◌+◌, Bool, true, false, not, ◌&&◌, nat_le, List, [], ◌∷◌, length, take, map, filter, Option, Some, None}
+use Rattle.std.specs.Prelude.{ℕ, ◌+◌, Bool, true, false, not, ◌&&◌, nat_le, List, [], ◌∷◌, length, take, map, flat_map, filter, Option, Some, None}
 use Rattle.std.specs.List.{list_all}
 use Rattle.std.specs.Option.{option_and_then}
 use Rattle.text_base.specs.Cards.{Card, cards}
@@ -12,10 +12,11 @@ use Rattle.text_base.specs.declared.limits.TheConstants.{LONGEST_WRITTEN, MOST_S
 use Rattle.text_base.specs.declared.refusal.Refusal.{Refusal}
 use Rattle.text_base.specs.declared.refusal.Cause.TheVariants.{NotBuilt}
 use Rattle.tree77.specs.Tree.{SourceUnit}
-use Rattle.tree77.specs.Spelling.{Statement, program, action, continue, end}
+use Rattle.tree77.specs.Spelling.{Built, program, action, continue, end_of_unit}
 use Rattle.tree77.specs.Typing.{is_integer_name, is_variable}
 use Rattle.parse77.specs.Unit.{header_name}
-use Rattle.parse77.specs.Reading.{ReadCard, read_card, file_statements, read_of, read_unit}
+use Rattle.parse77.specs.SourceReading.{ReadCard, read_card, file_statements, read_of, read_unit}
+use Rattle.parse77.specs.Statement.{refusals_of}
 use Rattle.tree90.specs.Tree.{simple}
 use Rattle.tree90.specs.Printed.{stmt_text}
 use Rattle.tree90.specs.Proper.{is_sign, is_additive}
@@ -56,14 +57,14 @@ abbrev pub is_short : Action → Bool
 is_short a = nat_le (length (stmt_text 1 (simple a))) (LONGEST_WRITTEN + 1)
 
 -- what can be converted: the expression of a statement is such a one, its names are those of integer variables, and its line fits
-abbrev pub is_built_statement : Option (List ℕ) → Statement → Bool
+abbrev pub is_built_statement : Option (List ℕ) → Built → Bool
 is_built_statement unit (program x) = true
 is_built_statement unit (action a) = is_built_action a && (list_all (is_free_name unit) (action_names a) && is_short a)
 is_built_statement unit continue = true
-is_built_statement unit end = true
+is_built_statement unit end_of_unit = true
 
 -- a statement that was read, and can be converted in the program of this name
-abbrev pub is_built_as : Option (List ℕ) → Option Statement → Bool
+abbrev pub is_built_as : Option (List ℕ) → Option Built → Bool
 is_built_as unit None = false
 is_built_as unit (Some s) = is_built_statement unit s
 
@@ -76,9 +77,13 @@ not_built_at card = record { place = card.place; cause = NotBuilt; name = take M
 
 -- ---- all statements
 
--- the refusals of the statements that aren't converted yet
+-- the refusals of the statements of a file that have no spelling, or of which a part is refused: one each
 abbrev pub statement_refusals : List Card → List Refusal
-statement_refusals cards = map not_built_at (filter (λ card. not (is_built_card (program_name (map read_of cards)) card)) cards)
+statement_refusals cards = flat_map refusals_of cards
+
+-- the refusals of the statements that aren't converted yet
+abbrev pub unbuilt_refusals : List Card → List Refusal
+unbuilt_refusals cards = map not_built_at (filter (λ card. not (is_built_card (program_name (map read_of cards)) card)) cards)
 
 -- the refusal of a file whose statements aren't one main program
 abbrev pub unit_refusals : ℕ → Option SourceUnit → List Refusal
@@ -90,7 +95,11 @@ abbrev pub first_of : List Refusal → List Refusal → List Refusal
 first_of [] later = later
 first_of (first ∷ rest) later = first ∷ rest
 
--- What is refused of a file: of its size and its lines; where there is nothing, of its statements; and where there is
--- nothing, of them as a program.
+-- what is refused of the statements of a file: of each by itself; where there is nothing, of those that aren't converted yet;
+-- and where there is nothing, of them as a program
+abbrev pub source_refusals : List Card → Option SourceUnit → List Refusal
+source_refusals cards unit = first_of (statement_refusals cards) (first_of (unbuilt_refusals cards) (unit_refusals 0 unit))
+
+-- What is refused of a file: of its size and its lines; and where there is nothing, of its statements.
 abbrev pub refusals : List ℕ → List Refusal
-refusals bytes = first_of (files_refusals 0 0 (bytes ∷ [])) (first_of (statement_refusals (cards 0 bytes)) (unit_refusals 0 (read_unit (file_statements 0 bytes))))
+refusals bytes = first_of (files_refusals 0 0 (bytes ∷ [])) (source_refusals (cards 0 bytes) (read_unit (file_statements 0 bytes)))

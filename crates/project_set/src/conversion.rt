@@ -5,20 +5,20 @@ ghost use Rattle.text_base.specs.Lines.{cut_lines};
 ghost use Rattle.text_base.specs.LineRefusals.{card_refusals};
 ghost use Rattle.card_reader.specs.Deck.{card_of, deck_comments};
 ghost use Rattle.tree77.specs.Plain.{unit_of};
-ghost use Rattle.parse77.specs.Reading.{file_statements};
+ghost use Rattle.parse77.specs.SourceReading.{file_statements};
 ghost use Rattle.parse77.specs.Statement.{card_read};
 ghost use Rattle.project_set.specs.Comments.{ArePlaced};
 ghost use Rattle.tree90.specs.Printed.{printed};
 ghost use Rattle.project_set.specs.Conversion.{IsConvertible, IsConversion, RefusesWith, program_map};
 ghost use Rattle.project_set.specs.Laws.{IsFaithful};
 ghost use Rattle.project_set.specs.Report.{report_text};
-ghost use Rattle.project_set.specs.Refusals.{statement_refusals};
+ghost use Rattle.project_set.specs.Refusals.{statement_refusals, unbuilt_refusals};
 ghost use Rattle.project_set.specs.Rewrite.{written};
 
 use crate::comments::Comments;
 use crate::laws::conversions_do_the_same;
 use crate::map::map_of;
-use crate::refusals::statement_refusals;
+use crate::refusals::{statement_refusals, unbuilt_refusals};
 use crate::report::{Counts, report};
 use crate::rewrite::rewritten;
 use crate::variables::variables;
@@ -90,14 +90,19 @@ fn read_parts(alloc: Global, bytes: &[u8]) -> Result<Parts, ConvertError>
     ensures comments { IfOk result (λ parts. 2 ≤ length (cards 0 bytes.now) → ArePlaced (comments bytes.now) (length (cards 0 bytes.now) - 1) parts.comments) }
     ensures cut { IfOk result (λ parts. parts.cut ≡ cut_lines bytes.now) }
     ensures accepted { OnOk result (card_refusals 0 bytes.now ≡ []) }
-    ensures built { OnOk result (statement_refusals (cards 0 bytes.now) ≡ []) }
+    ensures statements_accepted { OnOk result (statement_refusals (cards 0 bytes.now) ≡ []) }
+    ensures built { OnOk result (unbuilt_refusals (cards 0 bytes.now) ≡ []) }
     ensures refused { RefusesWith bytes.now result }
 {
     let deck = read_deck(alloc, bytes)?;
     let statements = read_statements(alloc, &deck)?;
-    let refusals = statement_refusals(alloc, deck.statements(), statements.as_slice())?;
-    if !refusals.is_empty() {
-        return Err(ConvertError::Refused(refusals));
+    let refused = statement_refusals(alloc, statements.as_slice())?;
+    if !refused.is_empty() {
+        return Err(ConvertError::Refused(refused));
+    }
+    let unbuilt = unbuilt_refusals(alloc, deck.statements(), statements.as_slice())?;
+    if !unbuilt.is_empty() {
+        return Err(ConvertError::Refused(unbuilt));
     }
     let comments = Comments::of(alloc, &deck)?;
     Ok(Parts {
@@ -116,7 +121,7 @@ struct Source {
 }
 
 // The program that the bytes are the source of, with their comments. What is refused is refused phase by phase: of the
-// lines, of the statements, and of the statements as a program.
+// lines, of the statements by themselves, of those that aren't converted yet, and of the statements as a program.
 fn read_source(alloc: Global, bytes: &[u8]) -> Result<Source, ConvertError>
     ensures found { IfOk result (λ s. IsConvertible bytes.now (record { units = unit_of s.unit ∷ [] })) }
     ensures counted { IfOk result (λ s. length s.comments.before ≡ length s.unit.items + 1) }
@@ -163,7 +168,8 @@ fn written_texts(alloc: Global, source: Source) -> Result<Outputs, AllocError>
 /// In: its bytes.
 ///
 /// Out: the text of the program, the map of its storage, and the report. Where something is refused of the bytes, `Refused`
-/// with all of it, phase by phase: of the lines, of the statements, of them as a program. `Memory` may come in place of
+/// with all of it, phase by phase: of the lines, of the statements by themselves, of those that aren't converted yet, of them as a
+/// program. `Memory` may come in place of
 /// either where memory is wanted, and tells nothing of the file.
 pub fn convert(alloc: Global, bytes: &[u8]) -> Result<Outputs, ConvertError>
     ensures converts { IfOk result (λ o. IsConversion bytes.now o.text o.map o.report) }

@@ -1,36 +1,71 @@
 // What is refused of the statements of a file.
-ghost use Rattle.std.specs.Prelude.{◌≡◌, ◌&&◌, ◌∷◌, ◌++◌, [], map, IfOk, OnOk};
+ghost use Rattle.std.specs.Prelude.{◌≡◌, ◌&&◌, ◌∷◌, ◌++◌, [], map, flat_map, IfOk, OnOk};
 ghost use Rattle.std.specs.List.{list_all};
-ghost use Rattle.std.specs.Option.{option_map};
+ghost use Rattle.std.specs.Option.{option_and_then};
 ghost use Rattle.text_base.specs.Names.{expr_names};
 ghost use Rattle.text_base.specs.Trees.{assign, name};
 ghost use Rattle.card_reader.specs.Deck.{card_of};
 ghost use Rattle.expr_tree.specs.Plain.{expr_of, unary_of, binary_of};
-ghost use Rattle.tree77.specs.Spelling.{action};
+ghost use Rattle.tree77.specs.Spelling.{action, built_of, built_simple};
+ghost use Rattle.tree77.specs.StatementPlain.{header_of, simple_of, statement_of};
+ghost use Rattle.tree77.specs.Statements as s;
 ghost use Rattle.tree77.specs.Typing.{is_integer_name, is_variable};
-ghost use Rattle.parse77.specs.Reading.{read_of};
-ghost use Rattle.parse77.specs.Statement.{statement_of, card_read};
+ghost use Rattle.parse77.specs.SourceReading.{read_of};
+ghost use Rattle.parse77.specs.Statement.{card_read, refusals_in};
+ghost use Rattle.parse77.specs.Unit.{header_name};
 ghost use Rattle.tree90.specs.Proper.{is_sign, is_additive};
-ghost use Rattle.project_set.specs.Refusals.{program_name, is_free_name, is_built_operand, is_built, is_built_statement, is_built_as, not_built_at, statement_refusals};
+ghost use Rattle.project_set.specs.Refusals.{program_name, is_free_name, is_built_operand, is_built, is_built_statement, is_built_as, not_built_at, unbuilt_refusals};
 
 use card_reader::Card;
 use free_printer::is_short_assignment;
-use parse77::{ReadStatement, Statement, shown};
+use parse77::{ReadStatement, StatementOutcome, shown};
 use sqlite_items::Items;
 use std::alloc::{AllocError, Global};
-use text_base::{Cause, Name, Refusal, Refusals};
-use tree77::{BinaryOp, Expr, UnaryOp};
+use text_base::{Bytes, Cause, Name, Refusal, Refusals};
+use tree77::{BinaryOp, Expr, Header77, Statement77, Stmt77, UnaryOp};
+
+// The name that a header gives to a program, if it is a PROGRAM statement.
+fn header_program(header: &Header77) -> Option<Name>
+    ensures { result ≡ option_and_then header_name (built_of (s.header (header_of header.now))) }
+{
+    match header {
+        Header77::Program(name) => Some(name.copy()),
+        Header77::Subroutine(_, _) => None,
+        Header77::Function(_, _, _) => None,
+        Header77::BlockData(_) => None,
+    }
+}
+
+// The name that a statement gives to a program, if it is a PROGRAM statement.
+fn statement_program(statement: &Statement77) -> Option<Name>
+    ensures { result ≡ option_and_then header_name (built_of (statement_of statement.now)) }
+{
+    match statement {
+        Statement77::Header(header) => header_program(header),
+        Statement77::Simple(_) => None,
+        Statement77::Declared(_) => None,
+        Statement77::StmtFunction(_, _, _) => None,
+        Statement77::Guarded(_, _) => None,
+        Statement77::IfThen(_) => None,
+        Statement77::ElseIf(_) => None,
+        Statement77::Else => None,
+        Statement77::EndIf => None,
+        Statement77::Do(_, _) => None,
+        Statement77::End => None,
+    }
+}
 
 // The name that the first statement gives to the program, if it gives one.
 fn program_name(statements: &[ReadStatement]) -> Option<Name>
     ensures { result ≡ program_name (map card_read statements.now) }
 {
-    let Some(first) = statements.first() else {
+    let first = statements.first()?;
+    if first.label != 0 {
         return None;
-    };
-    match &first.statement {
-        Some(Statement::Program(name)) => Some(name.copy()),
-        _ => None,
+    }
+    match &first.outcome {
+        StatementOutcome::Accepted(statement) => statement_program(statement),
+        StatementOutcome::Refused(_) => None,
     }
 }
 
@@ -120,7 +155,7 @@ fn is_free_sum(unit: &Option<Name>, expr: &Expr) -> bool
 
 // Whether the line that is written for the assignment is short enough is asked last, since it takes longest.
 #[tactic(auto, using(expr_tree::proofs::Equations::expr_equations))]
-fn is_assignment_built(unit: &Option<Name>, variable: &Name, value: &Expr) -> bool
+fn is_variable_built(unit: &Option<Name>, variable: &Name, value: &Expr) -> bool
     ensures { result ≡ is_built_statement unit.now (action (assign (name variable.now) (expr_of value.now))) }
 {
     is_free_name(unit, variable)
@@ -128,27 +163,134 @@ fn is_assignment_built(unit: &Option<Name>, variable: &Name, value: &Expr) -> bo
         && is_short_assignment(&Expr::Name(variable.copy()), value, 1)
 }
 
-// Whether the statement can be converted in a program of this name. The line of STOP is short.
-fn is_statement_built(unit: &Option<Name>, statement: &Statement) -> bool
-    ensures { result ≡ is_built_statement unit.now (statement_of statement.now) }
+// Whether the assignment can be converted in a program of this name.
+#[tactic(auto, using(expr_tree::proofs::Equations::expr_equations))]
+fn is_assignment_built(unit: &Option<Name>, variable: &Expr, value: &Expr) -> bool
+    ensures { result ≡ is_built_statement unit.now (action (assign (expr_of variable.now) (expr_of value.now))) }
 {
-    match statement {
-        Statement::Assign(variable, value) => is_assignment_built(unit, variable, value),
-        Statement::Program(_) => true,
-        Statement::Continue => true,
-        Statement::Stop => true,
-        Statement::End => true,
+    match variable {
+        Expr::Name(name) => is_variable_built(unit, name, value),
+        Expr::Int(_) => false,
+        Expr::Bool(_) => false,
+        Expr::Text(_) => false,
+        Expr::Call(_, _) => false,
+        Expr::Substring(_, _, _) => false,
+        Expr::Unary(_, _) => false,
+        Expr::Binary(_, _, _) => false,
+        Expr::Paren(_) => false,
     }
 }
 
-// Whether a statement is spelled and can be converted in a program of this name.
-fn is_built(unit: &Option<Name>, spelled: &Option<Statement>) -> bool
-    ensures { result ≡ is_built_as unit.now (option_map statement_of spelled.now) }
+// Whether the simple statement can be converted in a program of this name. The line of STOP is short.
+fn is_simple_built(unit: &Option<Name>, statement: &Stmt77) -> bool
+    ensures { result ≡ is_built_as unit.now (built_simple (simple_of statement.now)) }
 {
-    match spelled {
-        Some(statement) => is_statement_built(unit, statement),
-        None => false,
+    match statement {
+        Stmt77::Assign(variable, value) => is_assignment_built(unit, variable, value),
+        Stmt77::Continue => true,
+        Stmt77::Stop(None) => true,
+        Stmt77::Stop(Some(_)) => false,
+        Stmt77::Goto(_) => false,
+        Stmt77::Computed(_, _) => false,
+        Stmt77::Arithmetic(_, _, _, _) => false,
+        Stmt77::Return => false,
+        Stmt77::Call(_, _) => false,
+        Stmt77::Read(_, _) => false,
+        Stmt77::Write(_, _) => false,
+        Stmt77::Print(_, _) => false,
+        Stmt77::Open(_) => false,
+        Stmt77::Close(_) => false,
+        Stmt77::Rewind(_) => false,
     }
+}
+
+// Whether the header is a PROGRAM statement.
+fn is_header_built(unit: &Option<Name>, header: &Header77) -> bool
+    ensures { result ≡ is_built_as unit.now (built_of (s.header (header_of header.now))) }
+{
+    match header {
+        Header77::Program(_) => true,
+        Header77::Subroutine(_, _) => false,
+        Header77::Function(_, _, _) => false,
+        Header77::BlockData(_) => false,
+    }
+}
+
+// Whether the statement can be converted in a program of this name.
+fn is_statement_built(unit: &Option<Name>, statement: &Statement77) -> bool
+    ensures { result ≡ is_built_as unit.now (built_of (statement_of statement.now)) }
+{
+    match statement {
+        Statement77::Header(header) => is_header_built(unit, header),
+        Statement77::Simple(simple) => is_simple_built(unit, simple),
+        Statement77::End => true,
+        Statement77::Declared(_) => false,
+        Statement77::StmtFunction(_, _, _) => false,
+        Statement77::Guarded(_, _) => false,
+        Statement77::IfThen(_) => false,
+        Statement77::ElseIf(_) => false,
+        Statement77::Else => false,
+        Statement77::EndIf => false,
+        Statement77::Do(_, _) => false,
+    }
+}
+
+// Whether a statement that was read has no label, and can be converted in a program of this name.
+fn is_built(unit: &Option<Name>, read: &ReadStatement) -> bool
+    ensures { result ≡ is_built_as unit.now (card_read read.now).spelled }
+{
+    if read.label != 0 {
+        return false;
+    }
+    match &read.outcome {
+        StatementOutcome::Accepted(statement) => is_statement_built(unit, statement),
+        StatementOutcome::Refused(_) => false,
+    }
+}
+
+// A copy of a refusal.
+fn copy_of(alloc: Global, refusal: &Refusal) -> Result<Refusal, AllocError>
+    ensures { IfOk result (λ made. made ≡ refusal.now) }
+{
+    let name = Bytes::from_slice(alloc, refusal.name.as_slice())?;
+    Ok(Refusal {
+        place: refusal.place,
+        cause: refusal.cause,
+        name,
+    })
+}
+
+// Appends a copy of the refusal of a statement, if it has one.
+fn add_refusal(
+    alloc: Global,
+    refusals: &mut Refusals,
+    outcome: &StatementOutcome,
+) -> Result<(), AllocError>
+    ensures { OnOk result (refusals.new ≡ refusals.old ++ refusals_in outcome.now) }
+{
+    match outcome {
+        StatementOutcome::Accepted(_) => {}
+        StatementOutcome::Refused(refusal) => refusals.push(copy_of(alloc, refusal)?)?,
+    }
+    Ok(())
+}
+
+/// The refusals of statements that have no spelling, or of which a part is refused, in their order.
+///
+/// In: the statements of a file as they were read.
+///
+/// Out: a copy of the refusal of each that has one. It fails for want of memory alone.
+pub fn statement_refusals(
+    alloc: Global,
+    statements: &[ReadStatement],
+) -> Result<Refusals, AllocError>
+    ensures { IfOk result (λ list. list ≡ flat_map (λ r. refusals_in r.outcome) statements.now) }
+{
+    let mut refusals = Items::new(alloc);
+    for read in statements {
+        add_refusal(alloc, &mut refusals, &read.outcome)?;
+    }
+    Ok(refusals)
 }
 
 // Appends the refusal of a card that can't be converted, which names its first characters.
@@ -168,19 +310,19 @@ fn refuse(alloc: Global, refusals: &mut Refusals, card: &Card) -> Result<(), All
 ///
 /// In: the statements of a file as they stand there, and as they were read.
 ///
-/// Out: a refusal for each that has a label or no spelling, or isn't converted yet. It fails for want of memory alone.
-pub fn statement_refusals(
+/// Out: a refusal for each that has a label, or isn't converted yet. It fails for want of memory alone.
+pub fn unbuilt_refusals(
     alloc: Global,
     cards: &[Card],
     statements: &[ReadStatement],
 ) -> Result<Refusals, AllocError>
     requires { map card_read statements.now ≡ map read_of (map card_of cards.now) }
-    ensures { IfOk result (λ list. list ≡ statement_refusals (map card_of cards.now)) }
+    ensures { IfOk result (λ list. list ≡ unbuilt_refusals (map card_of cards.now)) }
 {
     let unit = program_name(statements);
     let mut refusals = Items::new(alloc);
     for (card, read) in cards.iter().zip(statements) {
-        if !is_built(&unit, &read.statement) {
+        if !is_built(&unit, read) {
             refuse(alloc, &mut refusals, card)?;
         }
     }

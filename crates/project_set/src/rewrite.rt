@@ -12,7 +12,7 @@ use crate::comments::Comments;
 use sqlite_items::Items;
 use std::alloc::{AllocError, Global};
 use text_base::{Name, Remarks};
-use tree77::{Body77, Item77, Items77, Stmt77, Unit77};
+use tree77::{Body77, Item77, Items77, Unit77};
 use tree90::{
     Declared90, Declared90s, Item90, Items90, Program90, Simple90, Stmt90, Stmts90, Type90, Unit90,
     UnitKind90,
@@ -101,24 +101,22 @@ fn rewritten_item(alloc: Global, comments: Remarks, item: Item77) -> Result<Item
     ensures comments { IfOk result (λ made. made.comments ≡ comments) }
     ensures body { IfOk result (λ made. map free.stmt_of made.body ≡ statements_of (source.stmt_of item.body)) }
 {
-    match item.body {
-        Body77::Simple(stmt) => Ok(Item90 {
-            comments,
-            body: rewritten_simple(alloc, stmt)?,
-        }),
-    }
+    Ok(Item90 {
+        comments,
+        body: rewritten_body(alloc, item.body)?,
+    })
 }
 
 /// The one statement that is written for this one, or none for a CONTINUE.
-fn rewritten_simple(alloc: Global, stmt: Stmt77) -> Result<Stmts90, AllocError>
-    ensures { IfOk result (λ made. map free.stmt_of made ≡ statements_of (source.stmt_of_simple stmt)) }
+fn rewritten_body(alloc: Global, body: Body77) -> Result<Stmts90, AllocError>
+    ensures { IfOk result (λ made. map free.stmt_of made ≡ statements_of (source.stmt_of body)) }
 {
-    match stmt {
-        Stmt77::Assign(variable, value) => {
+    match body {
+        Body77::Assign(variable, value) => {
             one_statement(alloc, Simple90::Assign(variable, value))
         }
-        Stmt77::Continue => Ok(Items::new(alloc)),
-        Stmt77::Stop => one_statement(alloc, Simple90::Stop),
+        Body77::Continue => Ok(Items::new(alloc)),
+        Body77::Stop => one_statement(alloc, Simple90::Stop),
     }
 }
 

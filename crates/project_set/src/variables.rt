@@ -4,14 +4,14 @@ ghost use Rattle.std.specs.Option.{option_map};
 ghost use Rattle.text_base.specs.Names.{expr_names, exprs_names, bound_names};
 ghost use Rattle.expr_tree.specs.Plain.{expr_of, exprs_of, bound_of};
 ghost use Rattle.tree77.specs.Typing.{variables, stmt_names, code_names};
-ghost use Rattle.tree77.specs.Plain.{stmt_of_simple, stmt_of, code_of, unit_of};
+ghost use Rattle.tree77.specs.Plain.{stmt_of, code_of, unit_of};
 ghost use Rattle.project_set.specs.Variables.{with_name, with_names, IsInStep};
 
 use indexmap::IndexSet;
 use sqlite_items::{Boxed, Items};
 use std::alloc::{AllocError, Global};
 use text_base::Name;
-use tree77::{Body77, Expr, Item77, Stmt77, Unit77};
+use tree77::{Body77, Expr, Item77, Unit77};
 
 /// Names, each once, in the order in which they were added first. A set of their characters finds them again.
 #[derive(Drop)]
@@ -51,22 +51,12 @@ fn add_body<'a>(names: &mut Names<'a>, body: &'a Body77) -> Result<(), AllocErro
     ensures in_step { OnOk result (IsInStep names.new.characters names.new.items) }
 {
     match body {
-        Body77::Simple(stmt) => add_stmt(names, stmt),
-    }
-}
-
-fn add_stmt<'a>(names: &mut Names<'a>, stmt: &'a Stmt77) -> Result<(), AllocError>
-    requires { IsInStep names.old.characters names.old.items }
-    ensures added { OnOk result (names.new.items ≡ with_names names.old.items (stmt_names (stmt_of_simple stmt.now))) }
-    ensures in_step { OnOk result (IsInStep names.new.characters names.new.items) }
-{
-    match stmt {
-        Stmt77::Assign(variable, value) => {
+        Body77::Assign(variable, value) => {
             add_expr(names, variable)?;
             add_expr(names, value)
         }
-        Stmt77::Continue => Ok(()),
-        Stmt77::Stop => Ok(()),
+        Body77::Continue => Ok(()),
+        Body77::Stop => Ok(()),
     }
 }
 

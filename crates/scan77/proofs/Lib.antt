@@ -14,3 +14,6 @@ pub mod PieceLaw
 pub mod PieceText
 pub mod PieceGrowth
 pub mod CutSteps
+pub mod PieceEnds
+pub mod PieceParts
+pub mod PieceSplits

@@ -1,12 +1,11 @@
 -- A statement has one list of pieces.
-use Rattle.std.proofs.Common.{◌≡◌, ◌≢◌, ◌⊎◌, ℕ, zero, suc, ◌<◌, ◌≤◌, min, Bool, true, List, [], ◌∷◌, ◌++◌, length, take, drop, slice_index, None, refl, sym, ap, ◌∙◌, subst, inl, inr, append-nil, length-take, take-append-drop, arith}
-use Rattle.std.specs.Str.Parse.{digits_value}
+use Rattle.std.proofs.Common.{◌≡◌, ◌≢◌, ◌⊎◌, ℕ, zero, suc, ◌<◌, ◌≤◌, Bool, true, List, [], ◌∷◌, ◌++◌, length, take, drop, slice_index, None, refl, sym, ap, ◌∙◌, subst, inl, inr, append-nil, length-take, take-append-drop, arith}
 use Rattle.std.proofs.lemmas.Bool.{cases_lt}
 use Rattle.text_base.specs.Chars.{to_upper}
-use Rattle.text_base.specs.Kept.{is_format, is_h, last_digits, IsPlain, IsInside, count_or_none}
+use Rattle.text_base.specs.Kept.{is_format, is_h, last_digits, count_before, IsPlain, IsInside, count_or_none}
 use Rattle.text_base.specs.Pieces.{Piece, plain, whole, broken, plain_pieces, counted_piece, IsPieces, pieces_plain, pieces_constant, pieces_open, pieces_count}
-use Rattle.scan77.specs.PieceReading.{no_text, pieces_from, pieces_of}
-use Rattle.card_reader.proofs.LastDigits.{most, count_of}
+use Rattle.scan77.specs.PieceReading.{no_text, pieces_from, pieces_of, format_pieces_of}
+use Rattle.card_reader.proofs.LastDigits.{count_of}
 use Rattle.card_reader.proofs.ScanSteps.{plain_state, keeping_state}
 use Rattle.card_reader.proofs.PlainText.{quiet_plain, First, nowhere, at_apostrophe, at_count, first}
 use Rattle.card_reader.proofs.KeptLaw.{IsCounted, counted, rest_shorter, inner_no_longer, Ends, ends_never, ends_after, ends}
@@ -15,10 +14,6 @@ use Rattle.scan77.proofs.PieceSteps.{pieces_by_flag, plain_text_pieces, constant
 -- the pieces of a text, where it is known whether it is of a FORMAT
 abbrev pieces_at : Bool → List ℕ → List Piece
 pieces_at f text = pieces_from (plain_state f None) no_text text
-
--- the text of a FORMAT is short
-abbrev IsShortIf : Bool → List ℕ → Type 0
-IsShortIf f text = f ≡ true → length text < most
 
 -- ---- plain text, and what stands behind it
 
@@ -36,49 +31,42 @@ with_broken f before inside is_plain is_inside =
     plain_text_pieces f before (39 ∷ inside) is_plain
     ∙ ap (λ (ps : List Piece). plain_pieces before ++ ps) (broken_piece f (count_of (last_digits before)) inside is_inside)
 
--- the cap is no less than what is kept
-kept_count : (f : Bool) (inside rest : List ℕ) (n : ℕ) → length inside < most → IsCounted inside rest n
-    → pieces_from (keeping_state f (min n most)) no_text (inside ++ rest) ≡ counted_piece inside (pieces_at f rest)
-kept_count f inside rest n short (inl all) = counted_pieces f inside rest (min n most) (omega (arith, short, all))
-kept_count f inside rest n short (inr cut) =
-    ap (λ (xs : List ℕ). pieces_from (keeping_state f (min n most)) no_text (inside ++ xs)) cut.1
-    ∙ ap (λ (xs : List ℕ). pieces_from (keeping_state f (min n most)) no_text xs) (append-nil inside)
-    ∙ cut_pieces f inside (min n most) (omega (arith, short, cut.0))
+-- as many characters as are kept
+kept_count : (f : Bool) (inside rest : List ℕ) (n : ℕ) → IsCounted inside rest n → pieces_from (keeping_state f n) no_text (inside ++ rest) ≡ counted_piece inside (pieces_at f rest)
+kept_count f inside rest n (inl all) = counted_pieces f inside rest n (sym all)
+kept_count f inside rest n (inr cut) =
+    ap (λ (xs : List ℕ). pieces_from (keeping_state f n) no_text (inside ++ xs)) cut.1
+    ∙ ap (λ (xs : List ℕ). pieces_from (keeping_state f n) no_text xs) (append-nil inside)
+    ∙ cut_pieces f inside n cut.0
     ∙ ap (λ (xs : List ℕ). counted_piece inside (pieces_at f xs)) (sym cut.1)
 
 with_count : (f : Bool) (before : List ℕ) (h : ℕ) (inside rest : List ℕ) → f ≡ true → IsPlain f before → last_digits before ≢ [] → is_h h ≡ true
-    → IsCounted inside rest (digits_value 10 (last_digits before)) → length inside < most
+    → IsCounted inside rest (count_before before)
     → pieces_at f (before ++ h ∷ (inside ++ rest)) ≡ plain_pieces (before ++ h ∷ []) ++ counted_piece inside (pieces_at f rest)
-with_count f before h inside rest is is_plain some letter counts short =
+with_count f before h inside rest is is_plain some letter counts =
     plain_text_pieces f before (h ∷ (inside ++ rest)) is_plain
     ∙ ap (λ (ps : List Piece). plain_pieces before ++ ps)
     (subst (λ g. pieces_from (plain_state g (count_of (last_digits before))) no_text (h ∷ (inside ++ rest)) ≡ plain (to_upper h) ∷ pieces_from (keeping_state g (count_or_none (count_of (last_digits before)))) no_text (inside ++ rest)) (sym is)
     (h_piece (count_of (last_digits before)) h (inside ++ rest) letter))
     ∙ ap (λ n. plain_pieces before ++ plain (to_upper h) ∷ pieces_from (keeping_state f n) no_text (inside ++ rest)) (counted (last_digits before) some)
-    ∙ ap (λ (ps : List Piece). plain_pieces before ++ plain (to_upper h) ∷ ps) (kept_count f inside rest (digits_value 10 (last_digits before)) short counts)
+    ∙ ap (λ (ps : List Piece). plain_pieces before ++ plain (to_upper h) ∷ ps) (kept_count f inside rest (count_before before) counts)
     ∙ h_last before h (counted_piece inside (pieces_at f rest)) letter
 
 -- ---- no others
 
-only_pieces : (f : Bool) (text : List ℕ) (pieces : List Piece) → IsShortIf f text → IsPieces f text pieces → pieces ≡ pieces_at f text
-only_pieces f text pieces short (pieces_plain is_plain p) = p ∙ sym (only_plain f text is_plain)
-only_pieces f text pieces short (pieces_constant {rest = rest} {more = more} before inside is_plain is_inside differ t next p) =
-    let long = ap length t in
-    let after = rest_shorter before 39 (inside ++ 39 ∷ rest) in
-    let behind = rest_shorter inside 39 rest in
+only_pieces : (f : Bool) (text : List ℕ) (pieces : List Piece) → IsPieces f text pieces → pieces ≡ pieces_at f text
+only_pieces f text pieces (pieces_plain is_plain p) = p ∙ sym (only_plain f text is_plain)
+only_pieces f text pieces (pieces_constant {rest = rest} {more = more} before inside is_plain is_inside differ t next p) =
     p
-    ∙ ap (λ (ps : List Piece). plain_pieces before ++ whole (39 ∷ (inside ++ 39 ∷ [])) ∷ ps) (only_pieces f rest more (λ is. omega (arith, short is, long, after, behind)) next)
+    ∙ ap (λ (ps : List Piece). plain_pieces before ++ whole (39 ∷ (inside ++ 39 ∷ [])) ∷ ps) (only_pieces f rest more next)
     ∙ sym (with_constant f before inside rest is_plain is_inside differ)
     ∙ ap (pieces_at f) (sym t)
-only_pieces f text pieces short (pieces_open before inside is_plain is_inside t p) =
+only_pieces f text pieces (pieces_open before inside is_plain is_inside t p) =
     p ∙ sym (with_broken f before inside is_plain is_inside) ∙ ap (pieces_at f) (sym t)
-only_pieces f text pieces short (pieces_count {rest = rest} {more = more} before h inside is is_plain some letter counts t next p) =
-    let long = ap length t in
-    let after = rest_shorter before h (inside ++ rest) in
-    let inner = inner_no_longer inside rest in
+only_pieces f text pieces (pieces_count {rest = rest} {more = more} before h inside is is_plain some letter counts t next p) =
     p
-    ∙ ap (λ (ps : List Piece). plain_pieces (before ++ h ∷ []) ++ counted_piece inside ps) (only_pieces f rest more (λ is. omega (arith, short is, long, after, inner.1)) next)
-    ∙ sym (with_count f before h inside rest is is_plain some letter counts (omega (arith, short is, long, after, inner.0)))
+    ∙ ap (λ (ps : List Piece). plain_pieces (before ++ h ∷ []) ++ counted_piece inside ps) (only_pieces f rest more next)
+    ∙ sym (with_count f before h inside rest is is_plain some letter counts)
     ∙ ap (pieces_at f) (sym t)
 
 -- ---- these
@@ -96,40 +84,48 @@ after_apostrophe f text before rest is_plain e later (ends_after inside behind i
     let shorter = rest_shorter inside 39 behind in
     pieces_constant before inside is_plain inner differ all (later behind (omega (arith, long, after, shorter))) (ap (pieces_at f) all ∙ with_constant f before inside behind is_plain inner differ)
 
-after_count : (f : Bool) (text before : List ℕ) (h : ℕ) (inside rest : List ℕ) → length text < most → f ≡ true → IsPlain f before → last_digits before ≢ [] → is_h h ≡ true
-    → IsCounted inside rest (digits_value 10 (last_digits before)) → text ≡ before ++ h ∷ (inside ++ rest) → ArePiecesBehind f text → IsPieces f text (pieces_at f text)
-after_count f text before h inside rest short is is_plain some letter counts e later =
+after_count : (f : Bool) (text before : List ℕ) (h : ℕ) (inside rest : List ℕ) → f ≡ true → IsPlain f before → last_digits before ≢ [] → is_h h ≡ true
+    → IsCounted inside rest (count_before before) → text ≡ before ++ h ∷ (inside ++ rest) → ArePiecesBehind f text → IsPieces f text (pieces_at f text)
+after_count f text before h inside rest is is_plain some letter counts e later =
     let long = ap length e in
     let after = rest_shorter before h (inside ++ rest) in
     let inner = inner_no_longer inside rest in
     pieces_count before h inside is is_plain some letter counts e (later rest (omega (arith, long, after, inner.1)))
-    (ap (pieces_at f) e ∙ with_count f before h inside rest is is_plain some letter counts (omega (arith, short, long, after, inner.0)))
+    (ap (pieces_at f) e ∙ with_count f before h inside rest is is_plain some letter counts)
 
-by_first : (f : Bool) (text : List ℕ) → IsShortIf f text → ArePiecesBehind f text → First f [] text → IsPieces f text (pieces_at f text)
-by_first f text short later (nowhere quiet) = let is_plain = quiet_plain f text quiet in pieces_plain is_plain (only_plain f text is_plain)
-by_first f text short later (at_apostrophe before rest quiet e) = after_apostrophe f text before rest (quiet_plain f before quiet) e later (ends rest)
-by_first f text short later (at_count before h rest is quiet some letter e) = go (cases_lt (length rest) n)
+by_first : (f : Bool) (text : List ℕ) → ArePiecesBehind f text → First f [] text → IsPieces f text (pieces_at f text)
+by_first f text later (nowhere quiet) = let is_plain = quiet_plain f text quiet in pieces_plain is_plain (only_plain f text is_plain)
+by_first f text later (at_apostrophe before rest quiet e) = after_apostrophe f text before rest (quiet_plain f before quiet) e later (ends rest)
+by_first f text later (at_count before h rest is quiet some letter e) = go (cases_lt (length rest) n)
   where
     n : ℕ
-    n = digits_value 10 (last_digits before)
+    n = count_before before
 
     go : (length rest < n) ⊎ (n ≤ length rest) → IsPieces f text (pieces_at f text)
     go (inl less) =
-        after_count f text before h rest [] (short is) is (quiet_plain f before quiet) some letter (inr (omega (arith, less), refl))
+        after_count f text before h rest [] is (quiet_plain f before quiet) some letter (inr (omega (arith, less), refl))
         (e ∙ ap (λ (xs : List ℕ). before ++ h ∷ xs) (sym (append-nil rest))) later
     go (inr enough) =
         let cut = length-take n rest in
-        after_count f text before h (take n rest) (drop n rest) (short is) is (quiet_plain f before quiet) some letter (inl (omega (arith, cut, enough)))
+        after_count f text before h (take n rest) (drop n rest) is (quiet_plain f before quiet) some letter (inl (omega (arith, cut, enough)))
         (e ∙ ap (λ (xs : List ℕ). before ++ h ∷ xs) (sym (take-append-drop n rest))) later
 
-up_to : (f : Bool) (n : ℕ) (text : List ℕ) → length text ≤ n → IsShortIf f text → IsPieces f text (pieces_at f text)
-up_to f zero text le short = by_first f text short (λ rest less. absurd (omega (arith, le, less))) (first f [] text)
-up_to f (suc n) text le short = by_first f text short (λ rest less. up_to f n rest (omega (arith, le, less)) (λ is. omega (arith, short is, less))) (first f [] text)
+up_to : (f : Bool) (n : ℕ) (text : List ℕ) → length text ≤ n → IsPieces f text (pieces_at f text)
+up_to f zero text le = by_first f text (λ rest less. absurd (omega (arith, le, less))) (first f [] text)
+up_to f (suc n) text le = by_first f text (λ rest less. up_to f n rest (omega (arith, le, less))) (first f [] text)
 
 -- ---- statements
 
-pub found : (label : ℕ) (text : List ℕ) → IsShortIf (is_format label text) text → IsPieces (is_format label text) text (pieces_of label text)
-found label text short = subst (IsPieces (is_format label text) text) (sym (pieces_by_flag label text)) (up_to (is_format label text) (length text) text (omega arith) short)
+pub found : (label : ℕ) (text : List ℕ) → IsPieces (is_format label text) text (pieces_of label text)
+found label text = subst (IsPieces (is_format label text) text) (sym (pieces_by_flag label text)) (up_to (is_format label text) (length text) text (omega arith))
 
-pub only : (label : ℕ) (text : List ℕ) (pieces : List Piece) → IsShortIf (is_format label text) text → IsPieces (is_format label text) text pieces → pieces ≡ pieces_of label text
-only label text pieces short p = only_pieces (is_format label text) text pieces short p ∙ sym (pieces_by_flag label text)
+pub only : (label : ℕ) (text : List ℕ) (pieces : List Piece) → IsPieces (is_format label text) text pieces → pieces ≡ pieces_of label text
+only label text pieces p = only_pieces (is_format label text) text pieces p ∙ sym (pieces_by_flag label text)
+
+-- ---- texts in a FORMAT
+
+pub format_found : (text : List ℕ) → IsPieces true text (format_pieces_of text)
+format_found text = up_to true (length text) text (omega arith)
+
+pub format_only : (text : List ℕ) (pieces : List Piece) → IsPieces true text pieces → pieces ≡ format_pieces_of text
+format_only = only_pieces true

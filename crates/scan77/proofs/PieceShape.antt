@@ -75,6 +75,10 @@ pub first_unmarked : (c : ℕ) (t text : List ℕ) (marks : List Mark) → text 
 first_unmarked c t text [] e none = ap (λ (x : List ℕ). kept_and_pieces x []) e ∙ ap (with_mark Plain c) (sym (unmarked t))
 first_unmarked c t text (m ∷ marks) e none = absurd (omega (arith, none))
 
+pub none_left : (marks : List Mark) → length marks ≡ 0 → marks ≡ []
+none_left [] none = refl
+none_left (m ∷ marks) none = absurd (omega (arith, none))
+
 -- ---- no pieces
 
 pub no_pieces : (t : List ℕ) (marks : List Mark) → t ≡ [] → pieces_in t marks ≡ []

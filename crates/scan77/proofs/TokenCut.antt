@@ -9,7 +9,7 @@ use Rattle.text_base.specs.Chars.{is_upper, is_digit, is_name_byte}
 use Rattle.text_base.specs.Pieces.{Piece, plain, whole, broken, piece_text}
 use Rattle.text_base.proofs.CharTests.{digit_is_no_letter}
 use Rattle.tree77.specs.Tokens.{TokenKind, run, digits, kept, mark, Token, is_mark, StopsAt, IsCut, cut_nothing, cut_run, cut_digits, cut_text, cut_mark, token_pieces}
-use Rattle.scan77.specs.TokenReading.{Open, no_token, open_run, open_digits, with_open, begun_at, read_next, read_tokens}
+use Rattle.scan77.specs.TokenReading.{AllFormed, Open, no_token, open_run, open_digits, with_open, begun_at, read_next, read_tokens}
 use Rattle.text_base.proofs.Optional.{mapped}
 
 -- ---- the tests are apart
@@ -249,6 +249,26 @@ cut_joined pieces tokens (cut_mark {rest = rest} {more = more} c front marks fol
     ap (flat_map (λ (t : Token). t.text)) is
     ∙ ap (λ (x : List ℕ). c ∷ x) (cut_joined rest more follows)
     ∙ ap (flat_map piece_text) (sym front)
+
+-- ---- the tokens one by one
+
+-- tokens that pieces are cut into are formed
+pub cut_formed : (pieces : List Piece) (tokens : List Token) → IsCut pieces tokens → AllFormed tokens
+cut_formed pieces tokens (cut_nothing none end) = subst AllFormed (sym end) tt
+cut_formed pieces tokens (cut_run {rest = rest} {more = more} c u front upper all stops follows is) = subst AllFormed (sym is) (and_from (is_upper c) (list_all is_name_byte u) upper all, cut_formed rest more follows)
+cut_formed pieces tokens (cut_digits {rest = rest} {more = more} c u front digit all stops follows is) = subst AllFormed (sym is) (and_from (is_digit c) (list_all is_digit u) digit all, cut_formed rest more follows)
+cut_formed pieces tokens (cut_text {rest = rest} {more = more} t front follows is) = subst AllFormed (sym is) (tt, cut_formed rest more follows)
+cut_formed pieces tokens (cut_mark {rest = rest} {more = more} c front marks follows is) = subst AllFormed (sym is) ((c, refl, marks), cut_formed rest more follows)
+
+-- pieces are those of the tokens that they are cut into
+pub cut_pieces : (pieces : List Piece) (tokens : List Token) → IsCut pieces tokens → pieces ≡ flat_map token_pieces tokens
+cut_pieces pieces tokens (cut_nothing none end) = none ∙ ap (flat_map token_pieces) (sym end)
+cut_pieces pieces tokens (cut_run {rest = rest} {more = more} c u front upper all stops follows is) =
+    front ∙ ap (λ (x : List Piece). plain c ∷ (map plain u ++ x)) (cut_pieces rest more follows) ∙ ap (flat_map token_pieces) (sym is)
+cut_pieces pieces tokens (cut_digits {rest = rest} {more = more} c u front digit all stops follows is) =
+    front ∙ ap (λ (x : List Piece). plain c ∷ (map plain u ++ x)) (cut_pieces rest more follows) ∙ ap (flat_map token_pieces) (sym is)
+cut_pieces pieces tokens (cut_text {rest = rest} {more = more} t front follows is) = front ∙ ap (λ (x : List Piece). token_pieces (record { kind = kept; text = t }) ++ x) (cut_pieces rest more follows) ∙ ap (flat_map token_pieces) (sym is)
+cut_pieces pieces tokens (cut_mark {rest = rest} {more = more} c front marks follows is) = front ∙ ap (λ (x : List Piece). plain c ∷ x) (cut_pieces rest more follows) ∙ ap (flat_map token_pieces) (sym is)
 
 -- ---- the first token, and then the others
 

@@ -9,3 +9,5 @@ pub mod Outline
 pub mod Token
 pub mod TokenReading
 pub mod Cutting
+pub mod FirstPiece
+pub mod PieceParts

@@ -1,5 +1,5 @@
 -- The pieces of a statement as a function of its characters, read one after another: a law says that these are its pieces.
-use Rattle.std.specs.Prelude.{ℕ, not, ◌==◌, List, [], ◌∷◌, ◌++◌, if◌then◌else◌}
+use Rattle.std.specs.Prelude.{ℕ, false, not, ◌==◌, List, [], ◌∷◌, ◌++◌, None, if◌then◌else◌}
 use Rattle.text_base.specs.Chars.{to_upper}
 use Rattle.text_base.specs.Kept.{Scan, scan_start, scan_after}
 use Rattle.text_base.specs.Pieces.{Piece, plain, whole, broken, counted_piece}
@@ -64,3 +64,11 @@ pub record ReadSoFar : Type 0 where
 -- the pieces of a statement with this label
 abbrev pub pieces_of : ℕ → List ℕ → List Piece
 pieces_of label text = pieces_from (scan_start label) no_text text
+
+-- behind the keyword of a FORMAT and its parenthesis
+abbrev pub format_start : Scan
+format_start = record { matched = 7; inside = false; left = 0; count = None }
+
+-- the pieces of a text in a FORMAT, as those of a character constant that is a format (X3.9 section 13.1.2)
+abbrev pub format_pieces_of : List ℕ → List Piece
+format_pieces_of text = pieces_from format_start no_text text

@@ -1,9 +1,10 @@
 -- The cut of pieces into tokens as a function: a law says that it is the one cut.
-use Rattle.std.specs.Prelude.{ℕ, List, [], ◌∷◌, ◌++◌, Option, Some, None, if◌then◌else◌}
+use Rattle.std.specs.Prelude.{◌≡◌, ℕ, true, List, [], ◌∷◌, ◌++◌, Option, Some, None, if◌then◌else◌}
 use Rattle.std.specs.Option.{option_map}
 use Rattle.text_base.specs.Chars.{is_upper, is_digit, is_name_byte}
 use Rattle.text_base.specs.Pieces.{Piece, plain, whole, broken}
-use Rattle.tree77.specs.Tokens.{Token, run, digits, kept, mark, is_mark}
+use Rattle.tree77.specs.Kinds.{is_word, is_number}
+use Rattle.tree77.specs.Tokens.{Token, TokenKind, run, digits, kept, mark, is_mark}
 
 -- the run or the digits that are being read, as far as they have come
 pub data Open : Type 0 where
@@ -36,3 +37,17 @@ read_tokens [] o = with_open o (Some [])
 read_tokens (plain c ∷ ps) o = read_next o c (read_tokens ps)
 read_tokens (whole t ∷ ps) o = with_open o (option_map (λ ts. record { kind = kept; text = t } ∷ ts) (read_tokens ps no_token))
 read_tokens (broken t ∷ ps) o = None
+
+-- ---- tokens of a cut
+
+-- what the characters of a token of this kind are
+abbrev pub IsFormed : TokenKind → List ℕ → Type 0
+IsFormed run t = is_word t ≡ true
+IsFormed digits t = is_number t ≡ true
+IsFormed kept t = Unit {0}
+IsFormed mark t = (c : ℕ) × (t ≡ c ∷ []) × (is_mark c ≡ true)
+
+-- each token is formed
+abbrev pub AllFormed : List Token → Type 0
+AllFormed [] = Unit {0}
+AllFormed (t ∷ ts) = IsFormed t.kind t.text × AllFormed ts

@@ -4,12 +4,12 @@ ghost use Rattle.text_base.specs.Chars.{is_digit, is_name_byte};
 ghost use Rattle.text_base.specs.Pieces.{plain};
 ghost use Rattle.tree77.specs.Tokens.{is_mark, begins_none, MayPrecede, IsCut, IsStuck, token_pieces};
 ghost use Rattle.scan77.specs.Cutting.{behind_passing, IsFirst};
-ghost use Rattle.scan77.specs.PieceList.{kept_and_pieces};
 ghost use Rattle.scan77.specs.PieceSlice.{slice_of};
 ghost use Rattle.scan77.specs.Token.{token_kind_of, token_of, tokens_of};
 ghost use Rattle.scan77.specs.declared.scan_error.ScanError.TheVariants.{NoToken};
 
 use crate::mark::Mark;
+use crate::piece_parts::{before, behind_digits, behind_kept};
 use crate::{PieceSlice, ScanError, Token, TokenKind, Tokens};
 use sqlite_items::Items;
 use std::alloc::Global;
@@ -34,33 +34,6 @@ fn behind_run(pieces: PieceSlice<'_>) -> PieceSlice<'_>
         if !is_name_byte(byte) {
             return rest;
         }
-        rest = more;
-    }
-    rest
-}
-
-/// What is left behind all first digits outside kept text.
-fn behind_digits(pieces: PieceSlice<'_>) -> PieceSlice<'_>
-    ensures pieces { slice_of result ≡ behind_passing is_digit (slice_of pieces.entry) }
-    ensures within { length result.text.now ≤ length pieces.entry.text.now }
-{
-    let mut rest = pieces;
-    while let Some((byte, more)) = rest.split_plain() {
-        if !is_digit(byte) {
-            return rest;
-        }
-        rest = more;
-    }
-    rest
-}
-
-/// What is left behind the further characters of a kept text.
-fn behind_kept(pieces: PieceSlice<'_>) -> PieceSlice<'_>
-    ensures pieces { slice_of result ≡ (kept_and_pieces pieces.entry.text.now pieces.entry.marks.now).1 }
-    ensures within { length result.text.now ≤ length pieces.entry.text.now }
-{
-    let mut rest = pieces;
-    while let Some((_, Mark::Further, more)) = rest.split_first() {
         rest = more;
     }
     rest
@@ -96,15 +69,6 @@ fn first_token<'a>(pieces: PieceSlice<'a>) -> Option<(TokenKind, PieceSlice<'a>)
         Mark::Open => None,
         Mark::First | Mark::Further => Some((TokenKind::Text, behind_kept(more))),
     }
-}
-
-/// The characters of some pieces before what is left of them.
-fn before<'a>(pieces: PieceSlice<'a>, rest: PieceSlice<'a>) -> &'a [u8]
-    requires { (t : List ℕ) × (pieces.text.now ≡ t ++ rest.text.now) }
-    ensures { pieces.entry.text.now ≡ result.now ++ rest.entry.text.now }
-{
-    let count = pieces.text.len() - rest.text.len();
-    &pieces.text[..count]
 }
 
 /// The first token, and what is left behind it. `None` where the pieces begin with none.

@@ -1,23 +1,27 @@
 // What holds of the definitions of pieces, kinds and tokens.
-ghost use Rattle.std.specs.Prelude.{◌≡◌, ◌<◌, ◌++◌, ◌∷◌, ℕ, true, List, [], length, map, flat_map, Some, None};
+ghost use Rattle.std.specs.Prelude.{◌≡◌, ◌++◌, ◌∷◌, ℕ, true, List, [], map, flat_map, Some, None};
 ghost use Rattle.std.specs.List.{list_all};
 ghost use Rattle.text_base.specs.Chars.{is_name_byte};
 ghost use Rattle.text_base.specs.Kept.{is_format, kept, read_characters};
 ghost use Rattle.text_base.specs.Pieces.{Piece, plain, IsPieces, piece_text};
-ghost use Rattle.text_base.specs.declared.limits.TheConstants.{GREATEST_COUNT};
 ghost use Rattle.tree77.specs.Kinds.{outline, outline_of, Kind, IsKind, IsFormat};
 ghost use Rattle.tree77.specs.Tokens.{Token, IsCut, IsStuck, StopsAt, token_pieces, run, mark, is_mark};
 ghost use Rattle.scan77.specs.KindReading.{read_kind};
-ghost use Rattle.scan77.specs.PieceReading.{pieces_of};
-ghost use Rattle.scan77.specs.TokenReading.{no_token, read_tokens};
+ghost use Rattle.scan77.specs.PieceReading.{pieces_of, format_pieces_of};
+ghost use Rattle.scan77.specs.TokenReading.{no_token, read_tokens, AllFormed};
 
 /// A statement has one list of pieces, which the reading of its characters one after another gives, and their characters
-/// are those of the statement as they are read. Of a FORMAT this is said where it has fewer characters than the number
-/// here, as each statement of a file has.
+/// are those of the statement as they are read.
 pub fn one_list_of_pieces()
-    ensures found { (label : ℕ) (text : List ℕ) → (is_format label text ≡ true → length text < GREATEST_COUNT) → IsPieces (is_format label text) text (pieces_of label text) }
-    ensures only { (label : ℕ) (text : List ℕ) (pieces : List Piece) → (is_format label text ≡ true → length text < GREATEST_COUNT) → IsPieces (is_format label text) text pieces → pieces ≡ pieces_of label text }
+    ensures found { (label : ℕ) (text : List ℕ) → IsPieces (is_format label text) text (pieces_of label text) }
+    ensures only { (label : ℕ) (text : List ℕ) (pieces : List Piece) → IsPieces (is_format label text) text pieces → pieces ≡ pieces_of label text }
     ensures joined { (label : ℕ) (text : List ℕ) → flat_map piece_text (pieces_of label text) ≡ read_characters text (kept label text) }
+{}
+
+/// A text in a FORMAT has one list of pieces, which the reading of its characters one after another gives.
+pub fn one_list_of_format_pieces()
+    ensures found { (text : List ℕ) → IsPieces true text (format_pieces_of text) }
+    ensures only { (text : List ℕ) (pieces : List Piece) → IsPieces true text pieces → pieces ≡ format_pieces_of text }
 {}
 
 /// The outline of the pieces of a statement is the one of its characters and marks.
@@ -38,12 +42,15 @@ pub fn one_format()
     ensures only { (label : ℕ) (text : List ℕ) → IsFormat label (outline text (kept label text)) → is_format label text ≡ true }
 {}
 
-/// Pieces are cut into tokens in one way at most, which the reading of pieces one after another gives. The characters of
-/// the tokens are those of the pieces, and where a token ends the next begins. There is no cut exactly where, behind
+/// Pieces are cut into tokens in one way at most, which the reading of pieces one after another gives. The pieces of the
+/// tokens are those that were cut, their characters too, each token is formed as its kind says, and where a token ends the
+/// next begins. There is no cut exactly where, behind
 /// tokens, a character constant doesn't end or a character begins no token.
 pub fn one_cut()
     ensures found { (pieces : List Piece) (tokens : List Token) → read_tokens pieces no_token ≡ Some tokens → IsCut pieces tokens }
     ensures only { (pieces : List Piece) (tokens : List Token) → IsCut pieces tokens → read_tokens pieces no_token ≡ Some tokens }
+    ensures pieces { (pieces : List Piece) (tokens : List Token) → IsCut pieces tokens → pieces ≡ flat_map token_pieces tokens }
+    ensures formed { (pieces : List Piece) (tokens : List Token) → IsCut pieces tokens → AllFormed tokens }
     ensures joined { (pieces : List Piece) (tokens : List Token) → IsCut pieces tokens → flat_map (λ t. t.text) tokens ≡ flat_map piece_text pieces }
     ensures next { (pieces : List Piece) (token : Token) (tokens : List Token) → IsCut pieces (token ∷ tokens) → (rest : List Piece) × (pieces ≡ token_pieces token ++ rest) × IsCut rest tokens }
     ensures stuck { (pieces : List Piece) → read_tokens pieces no_token ≡ None → IsStuck pieces }

@@ -112,7 +112,7 @@ fn behind_close(at: Outline<'_>) -> Option<Outline<'_>>
 }
 
 /// How many parentheses are open after one more character.
-fn open_after(depth: usize, character: u8) -> usize
+pub fn open_after(depth: usize, character: u8) -> usize
     requires { depth < 18446744073709551615 }
     ensures { result ≡ open_after depth character }
 {

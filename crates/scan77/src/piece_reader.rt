@@ -2,7 +2,7 @@
 ghost use Rattle.std.specs.Prelude.{◌≡◌, ◌∷◌, ◌++◌, ℕ, List, [], length, IfOk, OnOk, if◌then◌else◌};
 ghost use Rattle.text_base.specs.Kept.{scan_after};
 ghost use Rattle.card_reader.specs.Scan.{scan_of};
-ghost use Rattle.scan77.specs.PieceReading.{no_text, closed, closed_counted, closed_constant, more_constant, more_counted, plain_piece, last_piece, pieces_from, pieces_of};
+ghost use Rattle.scan77.specs.PieceReading.{no_text, closed, closed_counted, closed_constant, more_constant, more_counted, plain_piece, last_piece, pieces_from, pieces_of, format_pieces_of};
 ghost use Rattle.text_base.specs.Pieces.{plain};
 ghost use Rattle.scan77.specs.PieceReader.{read_so_far, IsMarked, is_open};
 
@@ -169,6 +169,19 @@ impl PieceReader {
     }
 }
 
+/// Reads characters into pieces, where the characters before them say what this does. It fails for want of memory alone.
+fn pieces_behind(alloc: Global, start: Scan, text: &[u8]) -> Result<Pieces, AllocError>
+    ensures { IfOk result (λ made. made ≡ pieces_from (scan_of start) no_text text.now) }
+{
+    let mut reader = PieceReader::with_room(alloc, text.len())?;
+    let mut scan = start;
+    for byte in text {
+        reader.take(scan, *byte)?;
+        scan = scan.after(*byte);
+    }
+    Ok(reader.finish(scan))
+}
+
 /// Reads the characters of a statement into pieces (X3.9 section 3.1.6).
 ///
 /// In: the statement, of which its label and its characters count.
@@ -178,12 +191,16 @@ impl PieceReader {
 pub fn pieces(alloc: Global, card: &Card) -> Result<Pieces, AllocError>
     ensures { IfOk result (λ made. made ≡ pieces_of card.now.label card.now.text) }
 {
-    let text = card.text.as_slice();
-    let mut reader = PieceReader::with_room(alloc, text.len())?;
-    let mut scan = Scan::start(card.label);
-    for byte in text {
-        reader.take(scan, *byte)?;
-        scan = scan.after(*byte);
-    }
-    Ok(reader.finish(scan))
+    pieces_behind(alloc, Scan::start(card.label), card.text.as_slice())
+}
+
+/// Reads characters into pieces as those of a FORMAT behind its keyword and its parenthesis (X3.9 section 13.5.2).
+///
+/// In: the characters, as those of a character constant that is a format (X3.9 section 13.1.2).
+///
+/// Out: their pieces, in order, as those of a statement. An error comes only where memory is wanted.
+pub fn format_pieces(alloc: Global, text: &[u8]) -> Result<Pieces, AllocError>
+    ensures { IfOk result (λ made. made ≡ format_pieces_of text.now) }
+{
+    pieces_behind(alloc, Scan::in_format(), text)
 }

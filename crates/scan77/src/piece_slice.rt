@@ -3,6 +3,7 @@ ghost use Rattle.std.specs.Prelude.{◌≡◌, ◌↔◌, ◌∷◌, [], IsTrue,
 ghost use Rattle.std.specs.Option.{option_map};
 ghost use Rattle.text_base.specs.Pieces.{piece_text};
 ghost use Rattle.scan77.specs.PieceList.{with_mark, kept_and_pieces};
+ghost use Rattle.scan77.specs.PieceParts.{IsBehind};
 ghost use Rattle.scan77.specs.PieceSlice.{slice_of, uncons_plain, behind_plain};
 
 use crate::mark::Mark;
@@ -41,6 +42,7 @@ impl<'a> PieceSlice<'a> {
     pub(crate) fn split_first(self) -> Option<(u8, Mark, PieceSlice<'a>)>
         ensures text { IfSome result (λ r. self.entry.text.now ≡ r.0 ∷ r.2.text.now) }
         ensures pieces { IfSome result (λ r. kept_and_pieces self.entry.text.now self.entry.marks.now ≡ with_mark r.1 r.0 (kept_and_pieces r.2.text.now r.2.marks.now)) }
+        ensures behind { IfSome result (λ r. IsBehind self.entry r.2) }
         ensures none { result ≡ None → self.entry.text.now ≡ [] }
     {
         let (byte, text) = self.text.split_first()?;
@@ -61,6 +63,7 @@ impl<'a> PieceSlice<'a> {
     pub(crate) fn split_plain(self) -> Option<(u8, PieceSlice<'a>)>
         ensures pieces { option_map (λ r. (r.0, slice_of r.1)) result ≡ uncons_plain (slice_of self.entry) }
         ensures text { IfSome result (λ r. self.entry.text.now ≡ r.0 ∷ r.1.text.now) }
+        ensures behind { IfSome result (λ r. IsBehind self.entry r.1) }
     {
         match self.split_first()? {
             (byte, Mark::Plain, rest) => Some((byte, rest)),

@@ -21,6 +21,10 @@ is_h c = c == 72 || c == 104
 abbrev pub last_digits : List ℕ → List ℕ
 last_digits text = reverse (take_while is_digit (reverse (without_blanks text)))
 
+-- how many characters an nH text has: what the digits before its H stand for, and no more than the greatest count
+abbrev pub count_before : List ℕ → ℕ
+count_before text = min (digits_value 10 (last_digits text)) GREATEST_COUNT
+
 -- Text in which no kept text begins: it has no apostrophe and, in a FORMAT, no H right after a digit, blanks left out.
 pub record IsPlain (format : Bool) (text : List ℕ) : Type 0 where
   pub no_apostrophe : list_all (λ c. not (c == 39)) text ≡ true
@@ -52,7 +56,7 @@ pub data IsMarked (format : Bool) : List ℕ → List ℕ → Type 0 where
       → text ≡ plain ++ 39 ∷ inside → marks ≡ nothing_kept plain ++ 1 ∷ all_kept inside → IsMarked format text marks
   -- in a FORMAT, plain text that ends with digits, H, and as many characters as the digits say, or as there are
   marked_count : {text marks rest more : List ℕ} (plain : List ℕ) (h : ℕ) (inside : List ℕ) → format ≡ true → IsPlain format plain → last_digits plain ≢ [] → is_h h ≡ true
-      → (length inside ≡ digits_value 10 (last_digits plain)) ⊎ ((length inside ≤ digits_value 10 (last_digits plain)) × (rest ≡ []))
+      → (length inside ≡ count_before plain) ⊎ ((length inside ≤ count_before plain) × (rest ≡ []))
       → text ≡ plain ++ h ∷ (inside ++ rest) → IsMarked format rest more
       → marks ≡ nothing_kept plain ++ 0 ∷ (all_kept inside ++ more) → IsMarked format text marks
 

@@ -18,3 +18,5 @@ pub mod Values
 pub mod Operations
 pub mod Runs
 pub mod Evaluation
+pub mod Formats
+pub mod FormatPlain

@@ -1,8 +1,7 @@
 -- The pieces of a statement: its characters outside kept text, and each kept text whole.
 use Rattle.std.specs.Prelude.{◌≡◌, ◌≢◌, ◌⊎◌, ℕ, ◌≤◌, Bool, true, List, [], ◌∷◌, ◌++◌, length, map, slice_index}
-use Rattle.std.specs.Str.Parse.{digits_value}
 use Rattle.text_base.specs.Chars.{characters}
-use Rattle.text_base.specs.Kept.{is_h, last_digits, IsPlain, IsInside}
+use Rattle.text_base.specs.Kept.{is_h, last_digits, count_before, IsPlain, IsInside}
 
 pub data Piece : Type 0 where
   -- a character outside kept text as it is read; blanks there don't count
@@ -33,7 +32,7 @@ pub data IsPieces (format : Bool) : List ℕ → List Piece → Type 0 where
       → text ≡ before ++ 39 ∷ inside → pieces ≡ plain_pieces before ++ broken (39 ∷ inside) ∷ [] → IsPieces format text pieces
   -- in a FORMAT, plain text that ends with digits, H, and as many characters as the digits say, or as there are
   pieces_count : {text rest : List ℕ} {pieces more : List Piece} (before : List ℕ) (h : ℕ) (inside : List ℕ) → format ≡ true → IsPlain format before → last_digits before ≢ [] → is_h h ≡ true
-      → (length inside ≡ digits_value 10 (last_digits before)) ⊎ ((length inside ≤ digits_value 10 (last_digits before)) × (rest ≡ []))
+      → (length inside ≡ count_before before) ⊎ ((length inside ≤ count_before before) × (rest ≡ []))
       → text ≡ before ++ h ∷ (inside ++ rest) → IsPieces format rest more
       → pieces ≡ plain_pieces (before ++ h ∷ []) ++ counted_piece inside more → IsPieces format text pieces
 

@@ -5,6 +5,7 @@
 mod bytes;
 pub mod chars;
 mod disk;
+mod format;
 pub mod limits;
 mod memory_shelf;
 mod memory_sink;
@@ -17,6 +18,7 @@ mod stop_code;
 
 pub use bytes::Bytes;
 pub use disk::{DiskShelf, StdSink};
+pub use format::{FormatEdit, FormatItem, FormatItems};
 pub use memory_shelf::MemoryShelf;
 pub use memory_sink::MemorySink;
 pub use name::Name;

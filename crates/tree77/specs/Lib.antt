@@ -10,3 +10,12 @@ pub mod Typing
 pub mod Source
 pub mod Layout
 pub mod Meaning
+pub mod Statements
+pub mod Forms
+pub mod FormWords
+pub mod ControlForms
+pub mod ListForms
+pub mod SpecificationForms
+pub mod TransferForms
+pub mod FormTable
+pub mod StatementPlain

@@ -3,20 +3,15 @@ use Rattle.std.specs.Prelude.{List, [], ◌∷◌}
 use Rattle.text_base.specs.Trees as t
 use Rattle.expr_tree.specs.Plain.{expr_of}
 use Rattle.tree77.specs.Tree.{Stmt, simple, continue, Code, done, item, SourceUnit}
-use Rattle.tree77.specs.declared.tree.Stmt77.{Stmt77}
-use Rattle.tree77.specs.declared.tree.Stmt77.TheVariants.{Assign, Continue, Stop}
 use Rattle.tree77.specs.declared.tree.Body77.{Body77}
-use Rattle.tree77.specs.declared.tree.Body77.TheVariants.{Simple}
+use Rattle.tree77.specs.declared.tree.Body77.TheVariants.{Assign, Continue, Stop}
 use Rattle.tree77.specs.declared.tree.Item77.{Item77}
 use Rattle.tree77.specs.declared.tree.Unit77.{Unit77}
 
-abbrev pub stmt_of_simple : Stmt77 → Stmt
-stmt_of_simple (Assign d e) = simple (t.assign (expr_of d) (expr_of e))
-stmt_of_simple Continue = continue
-stmt_of_simple Stop = simple t.stop
-
 abbrev pub stmt_of : Body77 → Stmt
-stmt_of (Simple s) = stmt_of_simple s
+stmt_of (Assign d e) = simple (t.assign (expr_of d) (expr_of e))
+stmt_of Continue = continue
+stmt_of Stop = simple t.stop
 
 abbrev pub code_of : List Item77 → Code
 code_of [] = done

@@ -1,7 +1,14 @@
 //! FORTRAN 77 programs as trees, with the definitions of their spelling, their storage and their meaning.
 #![tactic(auto)]
 
+mod statement;
 mod tree;
 
 pub use expr_tree::{BinaryOp, Expr, Exprs, UnaryOp};
-pub use tree::{Body77, Item77, Items77, Stmt77, Unit77, UnitKind};
+pub use statement::{
+    Block77, Control77, DataGroup77, DataValue77, Declarator77, Declarators77, Declared77,
+    Dimension77, Dimensions77, Equation77, FileControl77, FormatRef77, Header77, Implicit77,
+    Labels77, Length77, Letters77, Listed77, Listeds77, Names77, Range77, ReadBy77, Saved77,
+    Statement77, Stmt77, Times77, Type77, UnitRef77,
+};
+pub use tree::{Body77, Item77, Items77, Unit77, UnitKind};

@@ -3,19 +3,13 @@ use expr_tree::Expr;
 use sqlite_items::Items;
 use text_base::{Name, Place};
 
-/// A simple statement: an assignment, with its variable and its expression (X3.9 section 10.1); CONTINUE (X3.9 section
-/// 11.11); or STOP (X3.9 section 11.12).
+/// What an item of a list is, of the executable statements those that are converted: an assignment, with its variable and
+/// its expression (X3.9 section 10.1); CONTINUE (X3.9 section 11.11); or STOP (X3.9 section 11.12).
 #[derive(Debug, Drop)]
-pub enum Stmt77 {
+pub enum Body77 {
     Assign(Expr, Expr),
     Continue,
     Stop,
-}
-
-/// What an item of a list is: a simple statement.
-#[derive(Debug, Drop)]
-pub enum Body77 {
-    Simple(Stmt77),
 }
 
 /// An executable statement: its label, 0 where it has none; the place of its initial line; and what it is.

@@ -2,7 +2,7 @@
 use Rattle.std.specs.Prelude.{ℕ, List, [], ◌∷◌, ◌++◌, flat_map, codes}
 use Rattle.text_base.specs.LineRefusals.{Begun}
 use Rattle.text_base.specs.declared.refusal.Cause.{Cause}
-use Rattle.text_base.specs.declared.refusal.Cause.TheVariants.{LineTooLong, BadLabelField, ContinuationFirst, BadCharacter, NotBuilt}
+use Rattle.text_base.specs.declared.refusal.Cause.TheVariants.{LineTooLong, BadLabelField, ContinuationFirst, BadCharacter, NotAStatement, Unsupported, ConstantRange, NameTooLong, NotBuilt}
 use Rattle.text_base.specs.declared.refusal.Refusal.{Refusal}
 use Rattle.worked_examples.specs.Read.{at_line}
 use Rattle.worked_examples.specs.Sources.{blanks, zeros}
@@ -41,7 +41,7 @@ refused_sources =
     ∷ (program_with (codes "      I = 1\n" ++ codes "     \t+ 2\n"), at 3 BadCharacter (codes "6") ∷ [])
     ∷ (program_with (codes "      I = 1" ++ blanks 61 ++ codes "\t\n"), [])
     -- the bytes 126 and 127; a greater one outside a constant, and inside one
-    ∷ (program_with (codes "      I = ~\n"), at 2 NotBuilt (codes "I=~") ∷ [])
+    ∷ (program_with (codes "      I = ~\n"), at 2 NotAStatement (codes "I=~") ∷ [])
     ∷ (program_with (codes "      C = '" ++ 127 ∷ codes "'\n"), at 2 BadCharacter (codes "12") ∷ [])
     ∷ (program_with (codes "      I = " ++ 128 ∷ codes "\n"), at 2 BadCharacter (codes "11") ∷ [])
     ∷ (program_with (codes "      C = '" ++ 128 ∷ codes "'\n"), at 2 NotBuilt (codes "C='" ++ 128 ∷ codes "'") ∷ [])
@@ -49,6 +49,15 @@ refused_sources =
     ∷ (program_with (codes "C" ++ blanks 132 ++ codes "\n"), at 2 LineTooLong (codes "133") ∷ [])
     ∷ (program_with (codes "      I = 1" ++ blanks 122 ++ codes "\n"), at 2 LineTooLong (codes "133") ∷ [])
     ∷ (program_with (codes "      I = 1" ++ blanks 121 ++ codes "\n"), [])
+    -- statements without spelling and with refused parts, all of them and no statement that isn't converted only
+    ∷ (
+      program_with (codes "      I == 1\n" ++ codes "      REAL X\n" ++ codes "      I = 2147483648\n" ++ codes "      J = I * 2\n" ++ codes "      PAUSE 'A\n" ++ codes "      INQUIRE (5, EXIST=L)\n"),
+      at 2 NotAStatement (codes "I==1") ∷ at 3 Unsupported (codes "REAL") ∷ at 4 ConstantRange (codes "2147483648") ∷ at 6 Unsupported (codes "PAUSE") ∷ at 7 Unsupported (codes "INQUIRE") ∷ [],
+    )
+    ∷ (
+      program_with (codes "      ABCDEFGHIJKLMNOPQRSTUVWXYZ123456 = 1\n" ++ codes "   10 FORMAT (F8.3)\n" ++ codes "      GO TO (10, 20) I\n"),
+      at 2 NameTooLong (codes "ABCDEFGHIJKLMNOPQRSTUVWXYZ12345") ∷ at 3 Unsupported (codes "EDIT") ∷ [],
+    )
     -- several lines, in order, before any statement
     ∷ (program_with (codes "X     I = 1\n" ++ codes "      A = 1\n" ++ codes "      J =\t1\n"), at 2 BadLabelField (codes "1") ∷ at 4 BadCharacter (codes "10") ∷ [])
     -- a real variable, the program's name as a variable, a label, and a product

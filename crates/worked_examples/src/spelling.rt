@@ -1,19 +1,17 @@
 // Statements and expressions, and what they spell.
-ghost use Rattle.std.specs.Prelude.{All};
 ghost use Rattle.tree77.specs.Lexemes.{SpellsExpression, IsRefusedExpression};
-ghost use Rattle.tree77.specs.Spelling.{SpellsStatement};
 ghost use Rattle.worked_examples.specs.Tables.{Holds};
-ghost use Rattle.worked_examples.specs.Statements.{statements, no_statements, SpellsNothing};
+ghost use Rattle.worked_examples.specs.Statements.{statements, refused_statements, Spells, IsRefusedWith};
 ghost use Rattle.worked_examples.specs.Expressions.{expressions, refused_expressions};
 
 use expr77::outcomes_are_spelled;
 use parse77::statements_are_spelled;
 use scan77::one_cut;
 
-/// Each of these spells its statement, and each of those none.
+/// Each of these spells its statement, and each of those is refused with its part.
 pub fn spelled_statements()
-    ensures some { Holds SpellsStatement statements }
-    ensures none { All SpellsNothing no_statements }
+    ensures some { Holds Spells statements }
+    ensures refused { Holds IsRefusedWith refused_statements }
 {
     statements_are_spelled();
 }

@@ -281,14 +281,15 @@ C     FIRST\n\n*     NEXT\n ~ t.f:0: 99 NotBuilt 0\n
       PROGRAM I\n      J = I\n      END\n ~ t.f:2: 99 NotBuilt J=I\n
 
 # a constant past the integers
-      PROGRAM T\n      I = 2147483648\n      END\n ~ t.f:2: 99 NotBuilt I=2147483648\n
-      PROGRAM T\n      I = J - 2147483648\n      END\n ~ t.f:2: 99 NotBuilt I=J-21474836\n
+      PROGRAM T\n      I = 2147483648\n      END\n ~ t.f:2: 9 ConstantRange 2147483648\n
+      PROGRAM T\n      I = J - 2147483648\n      END\n ~ t.f:2: 9 ConstantRange 2147483648\n
+      PROGRAM T\n      J = 123456789012345\n      END\n ~ t.f:2: 9 ConstantRange 123456789012\n
 
 # a name of 32 letters
-      PROGRAM T\n      \32{I} = 1\n      END\n ~ t.f:2: 99 NotBuilt IIIIIIIIIIII\n
+      PROGRAM T\n      \32{I} = 1\n      END\n ~ t.f:2: 10 NameTooLong \31{I}\n
 
 # two operators together, parentheses, another operator, an operator at the end
-      PROGRAM T\n      I = 2 + -3\n      END\n ~ t.f:2: 99 NotBuilt I=2+-3\n
+      PROGRAM T\n      I = 2 + -3\n      END\n ~ t.f:2: 7 NotAStatement I=2+-3\n
       PROGRAM T\n      I = (1)\n      END\n ~ t.f:2: 99 NotBuilt I=(1)\n
 
 C     FIRST\n\
@@ -300,23 +301,29 @@ C     FIRST\n\
       STOP\n\
       END\n ~ \
 t.f:5: 99 NotBuilt J=I*2\n
-      PROGRAM T\n      I = 1 +\n      END\n ~ t.f:2: 99 NotBuilt I=1+\n
+      PROGRAM T\n      I = 1 +\n      END\n ~ t.f:2: 7 NotAStatement I=1+\n
 
 # a missing side
-      PROGRAM T\n      I =\n      END\n ~ t.f:2: 99 NotBuilt I=\n
-      PROGRAM T\n      = 1\n      END\n ~ t.f:2: 99 NotBuilt =1\n
+      PROGRAM T\n      I =\n      END\n ~ t.f:2: 7 NotAStatement I=\n
+      PROGRAM T\n      = 1\n      END\n ~ t.f:2: 7 NotAStatement =1\n
+      PROGRAM T\n      I == 1\n      END\n ~ t.f:2: 7 NotAStatement I==1\n
 
-# a code of STOP, a label, a statement without characters
+# a code of STOP, a label
       PROGRAM T\n\
       STOP 1\n\
    10 CONTINUE\n\
+      END\n ~ \
+t.f:2: 99 NotBuilt STOP1\n\
+t.f:3: 99 NotBuilt CONTINUE\n
+
+# statements without characters
+      PROGRAM T\n\
+      STOP 1\n\
      0\n\
 10\n\
       END\n ~ \
-t.f:2: 99 NotBuilt STOP1\n\
-t.f:3: 99 NotBuilt CONTINUE\n\
-t.f:4: 99 NotBuilt \n\
-t.f:5: 99 NotBuilt \n
+t.f:3: 7 NotAStatement \n\
+t.f:4: 7 NotAStatement \n
 
 # all of them, in order, lower case read as upper case
       x = 1\n\
@@ -336,6 +343,80 @@ t.f:5: 99 NotBuilt I=T\n
       END\n ~ \
 t.f:2: 99 NotBuilt I='a b'\n\
 t.f:3: 99 NotBuilt FORMAT(3Ha b\n
+
+# statements that aren't converted yet
+      PROGRAM T\n\
+      INTEGER A(10)\n\
+      DO 10 I = 1, 10\n\
+   10 A(I) = I\n\
+      IF (A(1) .EQ. 1) STOP\n\
+      END\n ~ \
+t.f:2: 99 NotBuilt INTEGERA(10)\n\
+t.f:3: 99 NotBuilt DO10I=1,10\n\
+t.f:4: 99 NotBuilt A(I)=I\n\
+t.f:5: 99 NotBuilt IF(A(1).EQ.1\n
+
+# statements that aren't accepted, and not those that aren't converted yet
+      PROGRAM T\n      REAL X\n      END\n ~ t.f:2: 8 Unsupported REAL\n
+
+      PROGRAM T\n\
+      INTEGER A(10)\n\
+      REAL X\n\
+      DO 10 I = 1, 10\n\
+   10 A(I) = I\n\
+      WRITE (6, 20) (A(I), I=1,10)\n\
+   20 FORMAT (1X, 10I5)\n\
+      X = 1.5\n\
+      GO TO 99999999\n\
+      \32{I} = 3\n\
+      I = 12345678901\n\
+      END\n ~ \
+t.f:3: 8 Unsupported REAL\n\
+t.f:8: 8 Unsupported CONSTANT\n\
+t.f:9: 7 NotAStatement GOTO99999999\n\
+t.f:10: 10 NameTooLong \31{I}\n\
+t.f:11: 9 ConstantRange 12345678901\n
+
+# one refusal for a statement, of the lowest number, and of these the first
+      PROGRAM T\n\
+      \32{I} = 2147483648 + 1.5\n\
+      \32{I} = 2147483648\n\
+      CALL S(*10, 1.5)\n\
+      IF (I .EQ. 2147483648) PAUSE\n\
+      STOP 123456\n\
+      END\n ~ \
+t.f:2: 8 Unsupported CONSTANT\n\
+t.f:3: 9 ConstantRange 2147483648\n\
+t.f:4: 8 Unsupported RETURN\n\
+t.f:5: 8 Unsupported PAUSE\n\
+t.f:6: 7 NotAStatement STOP123456\n
+
+# at the initial line, with a label and without
+      PROGRAM T\n\
+C\n\
+      I = 1 +\n\
+C\n\
+     1    1.5\n\
+   10 END\n\
+     1 FILE 5\n\
+      END\n ~ \
+t.f:3: 8 Unsupported CONSTANT\n\
+t.f:6: 8 Unsupported ENDFILE\n
+
+# lower case read as upper case, and kept text as it stands
+      program t\n\
+      call s('a b', 'c d',)\n\
+      write (6, *, rec=1)\n\
+   10 format (3ha b, e10.3)\n\
+   20 format (3ha b, q)\n\
+      end\n ~ \
+t.f:2: 7 NotAStatement CALLS('a b',\n\
+t.f:3: 8 Unsupported CONTROL\n\
+t.f:4: 8 Unsupported EDIT\n\
+t.f:5: 7 NotAStatement FORMAT(3Ha b\n
+
+# in a file that is no program
+      I = 1\n      PAUSE\n ~ t.f:2: 8 Unsupported PAUSE\n
 
 # at the initial line
       PROGRAM T\n\
@@ -370,6 +451,8 @@ t.f:5: 6 BadCharacter 7\n
 12   +  + 1\n\
 C\132{x}\n\
       \x09I = 1\n\
+      REAL X\n\
+      I == 1\n\
       END\n ~ \
 t.f:2: 3 BadLabelField 2\n\
 t.f:3: 3 BadLabelField 1\n\

@@ -15,4 +15,4 @@ returns-in_default-clause-none c = λ pieces cut is.
 pub returns-clause-found : goal.returns-clause-found
 returns-clause-found c = λ pieces cut.
     let found : expression_of c.args.progress.now.depth (option_map plain_part c.args.progress.now.lowest) (tokens_of c.args.tokens.now) ≡ Some (expr_of c.in-Some.tree, option_map plain_part c.in-Some.lowest) = search rules in
-    read_found c.grouped_expressions.ensures.found c.args.progress.now.depth (option_map plain_part c.args.progress.now.lowest) (option_map plain_part c.in-Some.lowest) pieces (tokens_of c.args.tokens.now) (expr_of c.in-Some.tree) cut found
+    read_found c.one_cut.ensures.pieces c.one_cut.ensures.formed c.grouped_expressions.ensures.found c.args.progress.now.depth (option_map plain_part c.args.progress.now.lowest) (option_map plain_part c.in-Some.lowest) pieces (tokens_of c.args.tokens.now) (expr_of c.in-Some.tree) cut found

@@ -1,7 +1,7 @@
 use Rattle.std.proofs.Common.{◌≡◌, ◌∷◌, Some, map, sym, ap, ◌∙◌}
 use Rattle.std.specs.Option.{option_map, option_and_then}
 use Rattle.tree77.specs.Spelling.{program}
-use Rattle.parse77.specs.Reading.{read_code, unit_with}
+use Rattle.parse77.specs.SourceReading.{read_code, unit_with}
 use Rattle.parse77.specs.Statement.{card_read}
 use Rattle.parse77.specs.Unit.{ended_of}
 use Rattle.parse77.proofs.ItemLists.{first_removed, unit_named}

@@ -1,7 +1,7 @@
 use Rattle.std.proofs.Common.{◌≡◌, Some, sym, ap, ◌∙◌}
 use Rattle.std.specs.Option.{option_map}
 use Rattle.tree77.specs.Plain.{unit_of}
-use Rattle.parse77.specs.Reading.{file_statements, read_unit}
+use Rattle.parse77.specs.SourceReading.{file_statements, read_unit}
 use Rattle.project_set.proofs.ConversionLemmas.{converted, unit_of_file}
 use Rattle.project_set.proofs.conversion.read_source.Goals as goal
 
@@ -10,7 +10,7 @@ returns-clause-found c =
     let unit : read_unit (file_statements 0 c.args.bytes.now) ≡ Some (unit_of c.in-Some.unit) =
     ap read_unit (sym c.in_ok-parts.ensures.statements) ∙ sym c.in_ok-unit.ensures ∙ ap (option_map unit_of) c.in-Some.is in
     converted (λ file bytes p. c.statements_are_spelled.ensures.source_found file bytes p) c.args.bytes.now (unit_of c.in-Some.unit)
-    c.in_ok-parts.ensures.accepted c.in_ok-parts.ensures.built unit
+    c.in_ok-parts.ensures.accepted c.in_ok-parts.ensures.statements_accepted c.in_ok-parts.ensures.built unit
 
 pub returns-clause-counted : goal.returns-clause-counted
 returns-clause-counted c =

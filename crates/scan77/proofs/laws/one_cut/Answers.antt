@@ -1,4 +1,4 @@
-use Rattle.scan77.proofs.TokenCut.{cut_found, cut_only, cut_joined, cut_next}
+use Rattle.scan77.proofs.TokenCut.{cut_found, cut_only, cut_formed, cut_pieces, cut_joined, cut_next}
 use Rattle.scan77.proofs.TokenStuck.{cut_stuck, stuck_uncut}
 use Rattle.scan77.proofs.laws.one_cut.Goals as goal
 
@@ -7,6 +7,12 @@ returns-clause-found c = cut_found
 
 pub returns-clause-only : goal.returns-clause-only
 returns-clause-only c = cut_only
+
+pub returns-clause-pieces : goal.returns-clause-pieces
+returns-clause-pieces c = cut_pieces
+
+pub returns-clause-formed : goal.returns-clause-formed
+returns-clause-formed c = cut_formed
 
 pub returns-clause-joined : goal.returns-clause-joined
 returns-clause-joined c = cut_joined

@@ -1,7 +1,7 @@
 use Rattle.std.proofs.Common.{◌≡◌, None, Some, sym, ◌∙◌, refl}
 use Rattle.worked_examples.specs.Sources.{whole_source, short_source, undefined_source, overflow_source, product_source, no_sources}
 use Rattle.worked_examples.specs.Read.{whole_program, short_program, undefined_program, overflow_program, product_program, IsNoSource}
-use Rattle.worked_examples.proofs.LazyReading.{source_is, source_by, lazy_card}
+use Rattle.worked_examples.proofs.LazyReading.{source_is, source_by, lazy_outcome}
 use Rattle.worked_examples.proofs.Opened.{opened}
 use Rattle.worked_examples.proofs.Rows.{each_given}
 use Rattle.worked_examples.proofs.reading.sources.Goals as goal
@@ -30,4 +30,4 @@ pub returns-clause-none : goal.returns-clause-none
 unfolding opened
 returns-clause-none c =
     let only = c.statements_are_spelled.ensures.source_only in
-    each_given IsNoSource (source_by lazy_card 0) None (λ bytes nothing p is_source. let e : None ≡ Some p = sym (source_is 0 bytes None nothing) ∙ only 0 bytes p is_source in cc) no_sources refl
+    each_given IsNoSource (source_by lazy_outcome 0) None (λ bytes nothing p is_source. let e : None ≡ Some p = sym (source_is 0 bytes None nothing) ∙ only 0 bytes p is_source in cc) no_sources refl

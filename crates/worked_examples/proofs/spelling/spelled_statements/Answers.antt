@@ -1,14 +1,13 @@
-use Rattle.std.proofs.Common.{◌≡◌, Some, None, refl, sym, ◌∙◌}
-use Rattle.tree77.specs.Spelling.{SpellsStatement}
-use Rattle.parse77.specs.Reading.{read_statement}
-use Rattle.worked_examples.specs.Statements.{statements, no_statements, SpellsNothing}
+use Rattle.std.proofs.Common.{refl}
+use Rattle.parse77.specs.Reading.{accepted, rejected, outcome_of}
+use Rattle.worked_examples.specs.Statements.{Written, statements, refused_statements, Spells, IsRefusedWith}
 use Rattle.worked_examples.proofs.Opened.{opened}
-use Rattle.worked_examples.proofs.Rows.{each_row, each_given}
+use Rattle.worked_examples.proofs.Rows.{each_row}
 use Rattle.worked_examples.proofs.spelling.spelled_statements.Goals as goal
 
 pub returns : goal.returns
 unfolding opened
 returns c = record {
-  some = each_row SpellsStatement read_statement Some c.statements_are_spelled.ensures.statement_found statements refl;
-  none = each_given SpellsNothing read_statement None (λ pieces nothing s spelled. let e : None ≡ Some s = sym nothing ∙ c.statements_are_spelled.ensures.statement_only pieces s spelled in cc) no_statements refl;
+  some = each_row Spells (λ (w : Written). outcome_of w.0 w.1) accepted (λ w x. c.statements_are_spelled.ensures.spelled w.0 w.1 x) statements refl;
+  refused = each_row IsRefusedWith (λ (w : Written). outcome_of w.0 w.1) rejected (λ w p. c.statements_are_spelled.ensures.refused w.0 w.1 p) refused_statements refl;
 }
