@@ -1,7 +1,6 @@
 // Gathers the lexemes of an expression.
-ghost use Rattle.std.specs.Prelude.{◌≡◌, ◌+◌, ◌<◌, ◌≤◌, ◌^◌, ◌∷◌, [], ℕ, suc, None, length, take, IfOk, OnOk, if◌then◌else◌};
+ghost use Rattle.std.specs.Prelude.{◌≡◌, ◌+◌, ◌<◌, ◌≤◌, ◌^◌, ◌∷◌, [], ℕ, suc, None, length, IfOk, OnOk, if◌then◌else◌};
 ghost use Rattle.std.specs.Option.{option_map};
-ghost use Rattle.text_base.specs.declared.limits.TheConstants.{LONGEST_NAME};
 ghost use Rattle.tree77.specs.Lexemes as plain;
 ghost use Rattle.scan77.specs.Token.{tokens_of};
 ghost use Rattle.group77.specs.Symbol.{grammar_symbol};
@@ -12,29 +11,19 @@ ghost use Rattle.expr77.specs.Views.{lexeme_of, plain_part, stand_of, gathered_o
 
 use crate::lexeme::Lexeme;
 use crate::lexeme_reading::{Stand, lexeme_here, stand_behind};
-use crate::long_name::LongName;
-use crate::part::{Part, first, lower_part, refused_part, small_value};
+use crate::long_name::name_of;
+use crate::part::{Part, lower_part, refused_part, small_value};
 use expr_tree::Expr;
 use group77::{Symbol, Symbols};
 use scan77::Token;
 use sqlite_items::Items;
 use std::alloc::{AllocError, Global};
-use text_base::Name;
-use text_base::limits::LONGEST_NAME;
 
 /// The symbols of an expression, and the lowest part of it that is refused, if one is.
 #[derive(Drop)]
 pub struct Gathered<'a> {
     pub symbols: Symbols,
     pub lowest: Option<Part<'a>>,
-}
-
-/// The name that stands for one of any length: its first characters, as many as a name may have.
-#[tactic(auto, using(crate::proofs::LongNames::first_is_name))]
-fn name_of(long: &LongName<'_>) -> Name
-    ensures { result ≡ take LONGEST_NAME long.now }
-{
-    Name::new(first(long.as_slice(), LONGEST_NAME))
 }
 
 /// The integer constant of some digits, 0 where it is too great.
@@ -58,7 +47,7 @@ fn symbol(lexeme: Lexeme<'_>) -> Symbol
         Lexeme::Constant => Symbol::Operand(Expr::Int(0)),
         Lexeme::Logical(value) => Symbol::Operand(Expr::Bool(value)),
         Lexeme::Characters(text) => Symbol::Operand(Expr::Text(text)),
-        Lexeme::Name(long) => Symbol::Operand(Expr::Name(name_of(&long))),
+        Lexeme::Name(long) => Symbol::Operand(Expr::Name(name_of(long.as_slice()))),
         Lexeme::Alternate => Symbol::Alternate,
         Lexeme::Operator(operator) => Symbol::Operator(operator),
         Lexeme::Not => Symbol::Not,
@@ -137,7 +126,7 @@ pub fn gather<'a>(
     ensures { IfOk result (λ made. option_map gathered_of made
         ≡ option_map (with_lexemes (nothing_gathered (option_map plain_part lowest.entry)) depth) (lexemes_of (tokens_of tokens.now))) }
 {
-    let symbols = Items::new(alloc);
+    let symbols = Items::from_vec(Vec::with_capacity(alloc, tokens.len())?);
     let mut reading = Reading {
         gathered: Gathered { symbols, lowest },
         stand: Stand::Operand,

@@ -190,7 +190,8 @@ fn has_other_than_0(text: &[u8]) -> bool
     text.iter().any(|byte| !is_zero(*byte))
 }
 
-fn is_label(text: &[u8]) -> bool
+/// Whether characters are a statement label (X3.9 section 3.4).
+pub fn is_label(text: &[u8]) -> bool
     ensures { result ≡ plain.is_label text.now }
 {
     are_digits(text) && text.len() <= 5 && has_other_than_0(text)

@@ -1,5 +1,5 @@
 // Marks, runs, digits and numbers among tokens.
-ghost use Rattle.std.specs.Prelude.{◌≡◌, ◌==◌, Some};
+ghost use Rattle.std.specs.Prelude.{◌≡◌, ◌+◌, ◌≤◌, ◌==◌, length, Some, IfSome};
 ghost use Rattle.std.specs.Option.{option_map, option_or, option_and_then};
 ghost use Rattle.expr77.specs.LexemeReading as reading;
 ghost use Rattle.scan77.specs.Token.{token_kind_of, tokens_of};
@@ -26,7 +26,7 @@ pub fn first_or_0(text: &[u8]) -> u8
 }
 
 /// The character of a mark, 0 for other tokens.
-fn character(token: &Token<'_>) -> u8
+pub fn character(token: &Token<'_>) -> u8
     ensures { result ≡ reading.character_of (token_kind_of token.now.kind) token.now.text.now }
 {
     match token.kind {
@@ -39,7 +39,8 @@ fn character(token: &Token<'_>) -> u8
 
 /// What is left behind a mark, if it stands here.
 pub fn behind_mark<'t, 'a>(mark: u8, tokens: &'t [Token<'a>]) -> Option<&'t [Token<'a>]>
-    ensures { option_map (λ rest. tokens_of rest.now) result ≡ reading.behind_mark mark (tokens_of tokens.now) }
+    ensures read { option_map (λ rest. tokens_of rest.now) result ≡ reading.behind_mark mark (tokens_of tokens.now) }
+    ensures fewer { IfSome result (λ rest. length rest.now + 1 ≤ length tokens.now) }
 {
     match tokens {
         [] => None,
@@ -55,7 +56,8 @@ pub fn behind_mark<'t, 'a>(mark: u8, tokens: &'t [Token<'a>]) -> Option<&'t [Tok
 
 /// The run that stands here, and what is left behind it.
 pub fn run_here<'t, 'a>(tokens: &'t [Token<'a>]) -> Option<(&'a [u8], &'t [Token<'a>])>
-    ensures { option_map (λ p. (p.0.now, tokens_of p.1.now)) result ≡ reading.run_here (tokens_of tokens.now) }
+    ensures read { option_map (λ p. (p.0.now, tokens_of p.1.now)) result ≡ reading.run_here (tokens_of tokens.now) }
+    ensures fewer { IfSome result (λ p. length p.1.now + 1 ≤ length tokens.now) }
 {
     match tokens {
         [] => None,
@@ -70,7 +72,8 @@ pub fn run_here<'t, 'a>(tokens: &'t [Token<'a>]) -> Option<(&'a [u8], &'t [Token
 
 /// The digits that stand here, and what is left behind them.
 pub fn digits_here<'t, 'a>(tokens: &'t [Token<'a>]) -> Option<(&'a [u8], &'t [Token<'a>])>
-    ensures { option_map (λ p. (p.0.now, tokens_of p.1.now)) result ≡ reading.digits_here (tokens_of tokens.now) }
+    ensures read { option_map (λ p. (p.0.now, tokens_of p.1.now)) result ≡ reading.digits_here (tokens_of tokens.now) }
+    ensures fewer { IfSome result (λ p. length p.1.now + 1 ≤ length tokens.now) }
 {
     match tokens {
         [] => None,

@@ -39,7 +39,8 @@ pub fn first(text: &[u8], count: usize) -> &[u8]
     shown
 }
 
-fn unsupported<'a>(word: &'a str) -> Option<Part<'a>>
+/// A form that is refused.
+pub fn unsupported<'a>(word: &'a str) -> Option<Part<'a>>
     ensures { plain_parts result ≡ record { cause = Unsupported; shown = word.now } ∷ [] }
 {
     Some(Part {
@@ -48,37 +49,52 @@ fn unsupported<'a>(word: &'a str) -> Option<Part<'a>>
     })
 }
 
+/// The part that an integer constant is which is too great.
+pub fn great_number(digits: &[u8]) -> Option<Part<'_>>
+    ensures { plain_parts result ≡ plain.part_of 0 (plain.integer digits.now) }
+{
+    if small_value(digits).is_some() {
+        return None;
+    }
+    Some(Part {
+        cause: Cause::ConstantRange,
+        shown: first(digits, MOST_SHOWN),
+    })
+}
+
+/// The part that a name is which is too long.
+pub fn name_too_long(word: &[u8]) -> Option<Part<'_>>
+    ensures { plain_parts result ≡ plain.part_of 0 (plain.name word.now) }
+{
+    if word.len() <= LONGEST_NAME {
+        return None;
+    }
+    Some(Part {
+        cause: Cause::NameTooLong,
+        shown: first(word, LONGEST_NAME),
+    })
+}
+
+/// The part that a parenthesis is which is nested too deep, where so many are open before it.
+pub fn deep_parenthesis<'a>(depth: usize) -> Option<Part<'a>>
+    ensures { plain_parts result ≡ plain.part_of depth plain.opening }
+{
+    if depth < DEEPEST_NESTING {
+        return None;
+    }
+    unsupported("DEPTH")
+}
+
 /// The refused part that a lexeme is, where so many parentheses are open before it.
 pub fn refused_part<'a>(depth: usize, lexeme: &Lexeme<'a>) -> Option<Part<'a>>
     ensures { plain_parts result ≡ plain.part_of depth (lexeme_of lexeme.now) }
 {
     match lexeme {
-        Lexeme::Integer(digits) => {
-            if small_value(digits).is_some() {
-                return None;
-            }
-            Some(Part {
-                cause: Cause::ConstantRange,
-                shown: first(digits, MOST_SHOWN),
-            })
-        }
+        Lexeme::Integer(digits) => great_number(digits),
         Lexeme::Constant => unsupported("CONSTANT"),
         Lexeme::Alternate => unsupported("RETURN"),
-        Lexeme::Name(name) => {
-            if name.as_slice().len() <= LONGEST_NAME {
-                return None;
-            }
-            Some(Part {
-                cause: Cause::NameTooLong,
-                shown: first(name.as_slice(), LONGEST_NAME),
-            })
-        }
-        Lexeme::Open => {
-            if depth < DEEPEST_NESTING {
-                return None;
-            }
-            unsupported("DEPTH")
-        }
+        Lexeme::Name(name) => name_too_long(name.as_slice()),
+        Lexeme::Open => deep_parenthesis(depth),
         Lexeme::Logical(_) => None,
         Lexeme::Characters(_) => None,
         Lexeme::Operator(_) => None,

@@ -1,28 +1,11 @@
--- Integer constants whose value is too great.
-use Rattle.std.proofs.Common.{true, ◌≡◌, ℕ, ◌+◌, ◌*◌, ◌-◌, ◌<◌, ◌≤◌, List, [], ◌∷◌, length, drop, get_or, Some, None, sym, ap, ◌∙◌, arith}
+-- Labels are small.
+use Rattle.std.proofs.Common.{true, ◌≡◌, ℕ, ◌+◌, ◌*◌, ◌-◌, ◌≤◌, List, [], ◌∷◌, length, Some, None, sym, ap, ◌∙◌, arith}
 use Rattle.std.specs.Prelude.{if◌then◌else◌, nat_le}
-use Rattle.std.proofs.lemmas.List.{at_drop_more}
-use Rattle.std.proofs.lemmas.Bool.{and_parts, lt-leb}
+use Rattle.std.proofs.lemmas.Bool.{and_parts}
 use Rattle.std.specs.List.{list_all}
 use Rattle.std.proofs.lemmas.Bool.Decides.{nat_tests}
 use Rattle.text_base.specs.Chars.{is_digit}
 use Rattle.tree77.specs.Lexemes.{decimal_from, decimal, is_small, is_label}
-
--- further digits make no number smaller
-after_le : (n : ℕ) (cs : List ℕ) → n ≤ decimal_from n cs
-after_le n [] = omega arith
-after_le n (c ∷ cs) = let more = after_le (10 * n + (c - 48)) cs in omega (arith, more)
-
--- digits that have passed the greatest constant are too great
-pub too_great : (digits : List ℕ) (i v : ℕ) → i < length digits → decimal_from v (drop i digits) ≡ decimal digits → 2147483647 < 10 * v + (get_or digits i 0 - 48)
-    → {A : Type 0} (x : A) → None ≡ (if is_small digits then Some x else None)
-too_great digits i v lt goes_on passed x =
-    let more = after_le (10 * v + (get_or digits i 0 - 48)) (drop (i + 1) digits) in
-    let whole : decimal_from (10 * v + (get_or digits i 0 - 48)) (drop (i + 1) digits) ≡ decimal digits = sym (at_drop_more (decimal_from v) digits i 0 lt) ∙ goes_on in
-    let over : 2147483647 < decimal digits = omega (arith, more, whole, passed) in
-    sym (ap (λ b. if b then Some x else None) (lt-leb (decimal digits) 2147483647 over))
-
--- ---- labels
 
 digit_bound : (c : ℕ) → is_digit c ≡ true → c - 48 ≤ 9
 digit_bound c is = grind (arith, nat_tests)
@@ -65,7 +48,7 @@ label_is_small w is =
     le_test e = grind (arith, nat_tests)
 
 -- a label's number is always found
-pub label_found : {P : Type 0} (w : List ℕ) (x : ℕ) → is_label w ≡ true → (if is_small w then Some x else None) ≡ None → P
+pub label_found : {P : Type 0} {A : Type 0} (w : List ℕ) (x : A) → is_label w ≡ true → (if is_small w then Some x else None) ≡ None → P
 label_found w x is e =
     let found : Some x ≡ None = sym (ap (λ b. if b then Some x else None) (label_is_small w is)) ∙ e in
     absurd cc

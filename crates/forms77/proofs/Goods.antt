@@ -131,7 +131,7 @@ module _ {A : Type 0} (f : Form A) (view : A → Listed) (fit : IsInside f) wher
   looped_write = (rw (fit.good, fit.closes, fit.balanced) refl, refl)
 
   abbrev both_reads : Form Listed → Form (List Listed)
-  both_reads one = told (group (codes ",")) (made (λ p. []) (by_format one)) (told (Forms.one (codes "(")) (made (λ p. []) (by_control t.read_specifier one)) (made (λ p. []) (by_format one)))
+  both_reads one = told (group (codes ",/*+-.")) (made (λ p. []) (by_format one)) (told (Forms.one (codes "(")) (made (λ p. []) (by_control t.read_specifier one)) (made (λ p. []) (by_format one)))
 
   looped_read : IsWhole (both_reads (looped (designator (codes "),=:"))))
   looped_read = (rw (fit.good, fit.closes, fit.balanced) refl, refl)

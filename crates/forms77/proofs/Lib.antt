@@ -1,6 +1,5 @@
 pub mod Splitting
 pub mod Decimals
-pub mod Words
 pub mod ListSteps
 pub mod Shapes
 pub mod Stays

@@ -16,15 +16,13 @@ ghost use Rattle.forms77.specs.Views.{Gives, Ends};
 
 use crate::Stop;
 use crate::look::{Look, is_ahead};
-use crate::parts::{
-    deep_parenthesis, great_number, is_label, is_word, label_number, long_name, lower_part,
-    name_of, unsupported, value_or_0,
-};
-use crate::tokens::{
-    behind_mark, digits_here, has_star, is_one_of, kept_here, next_sort, run_here, split,
-};
+use crate::parts::{label_number, value_or_0};
+use crate::tokens::{has_star, is_one_of, kept_here, next_sort, split};
 use expr_tree::Expr;
-use expr77::{Part, Progress, quoted_text, read_expr};
+use expr77::{
+    Part, Progress, behind_mark, deep_parenthesis, digits_here, great_number, is_label, is_word,
+    lower_part, name_of, name_too_long, quoted_text, read_expr, run_here, unsupported,
+};
 use format77::{FormatRead, read_format_text};
 use scan77::Token;
 use sqlite_items::Items;
@@ -89,7 +87,7 @@ impl<'t, 'a> Feed<'t, 'a> {
         self.tokens = rest;
     }
 
-    /// Takes a mark.
+    /// Takes a mark. `NotSpelled` where it doesn't stand next.
     pub fn mark(&mut self, mark: u8) -> Result<(), Stop>
         ensures { Gives (λ x. x) result self.new (form.read_mark mark self.old) }
     {
@@ -115,7 +113,7 @@ impl<'t, 'a> Feed<'t, 'a> {
         }
     }
 
-    /// Takes a word.
+    /// Takes a word, which is a whole run. `NotSpelled` where it doesn't stand next.
     pub fn word(&mut self, word: &str) -> Result<(), Stop>
         ensures { Gives (λ x. x) result self.new (form.read_word word.now self.old) }
     {
@@ -129,7 +127,8 @@ impl<'t, 'a> Feed<'t, 'a> {
         Ok(())
     }
 
-    /// Takes a name, of which the first 31 characters are kept.
+    /// Takes a name, of which the first 31 characters are kept. One that is longer is noted as `NameTooLong`. `NotSpelled` where no
+    /// name stands next.
     pub fn name(&mut self) -> Result<Name, Stop>
         ensures { Gives (λ x. x) result self.new (form.read_name self.old) }
     {
@@ -139,12 +138,12 @@ impl<'t, 'a> Feed<'t, 'a> {
         if !is_word(text) {
             return Err(Stop::NotSpelled);
         }
-        self.keep(long_name(text));
+        self.keep(name_too_long(text));
         self.leave(rest);
         Ok(name_of(text))
     }
 
-    /// Takes a label (X3.9 section 3.4).
+    /// Takes a label (X3.9 section 3.4). `NotSpelled` where none stands next: one to five digits, not all 0.
     pub fn label(&mut self) -> Result<u32, Stop>
         ensures { Gives (λ x. x) result self.new (form.read_label self.old) }
     {
@@ -158,7 +157,7 @@ impl<'t, 'a> Feed<'t, 'a> {
         Ok(label_number(digits))
     }
 
-    /// Takes digits as they are written.
+    /// Takes digits as they are written. `NotSpelled` where none stand next.
     pub fn numeral(&mut self) -> Result<&'a [u8], Stop>
         ensures { Gives (λ x. x.now) result self.new (form.read_numeral self.old) }
     {
@@ -169,7 +168,8 @@ impl<'t, 'a> Feed<'t, 'a> {
         Ok(digits)
     }
 
-    /// Takes an integer constant of any length; 0 stands for one that is too great, which is refused.
+    /// Takes an integer constant of any length; 0 stands for one that is too great, which is refused. `NotSpelled` where none
+    /// stands next.
     pub fn number(&mut self) -> Result<i32, Stop>
         ensures { Gives (λ x. x) result self.new (form.read_integer self.old) }
     {
@@ -182,7 +182,7 @@ impl<'t, 'a> Feed<'t, 'a> {
     }
 
     /// Takes a character constant that is a format (X3.9 section 13.1.2): its characters, and its items; no items where a part of
-    /// it is refused.
+    /// it is refused. `NotSpelled` where no such constant stands next; `Memory` where memory is wanted.
     pub fn format_text(&mut self, alloc: Global) -> Result<(Bytes, FormatItems), Stop>
         ensures { Gives (λ r. (r.0, format_items r.1)) result self.new (form.read_format_text self.old) }
     {
@@ -206,7 +206,8 @@ impl<'t, 'a> Feed<'t, 'a> {
         }
     }
 
-    /// Takes an expression, up to the first of some marks outside parentheses. `strict`: no argument of it is `*label`.
+    /// Takes an expression, up to the first of some marks outside parentheses or the end. `strict`: no argument of it is `*label`.
+    /// `NotSpelled` where what stands there is no such expression; `Memory` where memory is wanted.
     #[tactic(auto, unfolding(crate::specs::Reading::read_portion))]
     pub fn portion(&mut self, alloc: Global, strict: bool, marks: &str) -> Result<Expr, Stop>
         ensures { Gives expr_of result self.new (form.read_portion strict marks.now self.old) }
@@ -225,7 +226,7 @@ impl<'t, 'a> Feed<'t, 'a> {
         Ok(tree)
     }
 
-    /// Takes a parenthesis that opens.
+    /// Takes a parenthesis that opens. One inside 200 others is noted as DEPTH. `NotSpelled` where none stands next.
     pub fn open(&mut self) -> Result<(), Stop>
         ensures { Gives (λ x. x) result self.new (form.read_open self.old) }
     {
@@ -238,7 +239,7 @@ impl<'t, 'a> Feed<'t, 'a> {
         Ok(())
     }
 
-    /// Takes a parenthesis that closes.
+    /// Takes a parenthesis that closes. `NotSpelled` where none stands next.
     pub fn close(&mut self) -> Result<(), Stop>
         ensures { Gives (λ x. x) result self.new (form.read_close self.old) }
     {
@@ -309,7 +310,7 @@ impl<'t, 'a> Feed<'t, 'a> {
         is_ahead(look, self.tokens)
     }
 
-    /// Ends the reading: nothing is left. The lowest refused part.
+    /// Ends the reading: nothing is left. The lowest refused part. `NotSpelled` where something is left.
     pub fn finish(self) -> Result<Option<Part<'a>>, Stop>
         ensures { Ends self.entry result }
     {

@@ -15,7 +15,7 @@ use crate::rule::{OneExpression, Rule, list, perhaps};
 use crate::shape::{designator, element};
 use crate::{Feed, Look, Stop};
 use expr_tree::Expr;
-use sqlite_items::Items;
+use sqlite_items::{Boxed, Items};
 use std::alloc::Global;
 use tree77::{Listed77, Listeds77, Range77};
 
@@ -93,7 +93,7 @@ fn implied(
     let first = item(alloc, feed, leaf, room)?;
     let (items, range) = items_behind(alloc, feed, leaf, room, first)?;
     feed.close()?;
-    Ok(Listed77::Loop(items, range))
+    Ok(Listed77::Loop(items, Boxed::new(alloc, range)?))
 }
 
 /// Takes the items behind the first of an implied DO list, and the values of its variable. All items, with the first.

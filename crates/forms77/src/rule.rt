@@ -29,6 +29,7 @@ pub trait Rule {
 
     ghost reader: { Self → Reader Plain };
 
+    /// Reads it from what is left. `NotSpelled` where that doesn't begin with it; `Memory` where memory is wanted.
     fn read(&self, alloc: Global, feed: &mut Feed<'_, '_>) -> Result<Self::Made, Stop>
         ensures { Gives plain result feed.new (reader self.now feed.old) };
 }

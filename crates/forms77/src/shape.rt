@@ -103,13 +103,6 @@ pub fn is_element(expr: &Expr) -> bool
     }
 }
 
-/// An integer constant; `None` of other expressions.
-pub fn if_integer(expr: Expr) -> Option<Expr>
-    ensures { option_map expr_of result ≡ words.if_integer (expr_of expr) }
-{
-    if is_integer(&expr) { Some(expr) } else { None }
-}
-
 /// The characters of a character constant.
 #[tactic(auto, using(expr_tree::proofs::Equations::expr_equations))]
 pub fn text_of(expr: Expr) -> Option<Bytes>

@@ -8,7 +8,7 @@ use thiserror::Error;
 /// Why tokens aren't read by a form.
 #[derive(Clone, Copy, Debug, PartialEq, Eq, Error)]
 pub enum Stop {
-    /// They don't begin with what has the form.
+    /// They don't begin with what has the form, or more stands behind it.
     #[error("the tokens don't have the form")]
     NotSpelled,
     /// Memory is wanted. Nothing is known of the tokens.

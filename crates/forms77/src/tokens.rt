@@ -8,78 +8,8 @@ ghost use Rattle.scan77.specs.Token.{token_kind_of, tokens_of};
 ghost use Rattle.tree77.specs.Forms.{is_in};
 ghost use Rattle.forms77.specs.Reading as form;
 
+use expr77::character;
 use scan77::{Token, TokenKind};
-
-/// The first character, 0 where there is none.
-fn first_or_0(text: &[u8]) -> u8
-    ensures { result ≡ reading.first_or_0 text.now }
-{
-    match text {
-        [] => 0,
-        [first, ..] => *first,
-    }
-}
-
-/// The character of a mark, 0 for other tokens.
-pub fn character(token: &Token<'_>) -> u8
-    ensures { result ≡ reading.character_of (token_kind_of token.now.kind) token.now.text.now }
-{
-    match token.kind {
-        TokenKind::Mark => first_or_0(token.text),
-        TokenKind::Run => 0,
-        TokenKind::Digits => 0,
-        TokenKind::Text => 0,
-    }
-}
-
-/// What is left behind a mark, if it stands here.
-pub fn behind_mark<'t, 'a>(mark: u8, tokens: &'t [Token<'a>]) -> Option<&'t [Token<'a>]>
-    ensures read { option_map (λ rest. tokens_of rest.now) result ≡ reading.behind_mark mark (tokens_of tokens.now) }
-    ensures fewer { IfSome result (λ rest. length rest.now + 1 ≤ length tokens.now) }
-{
-    match tokens {
-        [] => None,
-        [token, rest @ ..] => {
-            if character(token) == mark {
-                Some(rest)
-            } else {
-                None
-            }
-        }
-    }
-}
-
-/// The run that stands here, and what is left behind it.
-pub fn run_here<'t, 'a>(tokens: &'t [Token<'a>]) -> Option<(&'a [u8], &'t [Token<'a>])>
-    ensures read { option_map (λ p. (p.0.now, tokens_of p.1.now)) result ≡ reading.run_here (tokens_of tokens.now) }
-    ensures fewer { IfSome result (λ p. length p.1.now + 1 ≤ length tokens.now) }
-{
-    match tokens {
-        [] => None,
-        [token, rest @ ..] => match token.kind {
-            TokenKind::Run => Some((token.text, rest)),
-            TokenKind::Digits => None,
-            TokenKind::Text => None,
-            TokenKind::Mark => None,
-        },
-    }
-}
-
-/// The digits that stand here, and what is left behind them.
-pub fn digits_here<'t, 'a>(tokens: &'t [Token<'a>]) -> Option<(&'a [u8], &'t [Token<'a>])>
-    ensures read { option_map (λ p. (p.0.now, tokens_of p.1.now)) result ≡ reading.digits_here (tokens_of tokens.now) }
-    ensures fewer { IfSome result (λ p. length p.1.now + 1 ≤ length tokens.now) }
-{
-    match tokens {
-        [] => None,
-        [token, rest @ ..] => match token.kind {
-            TokenKind::Digits => Some((token.text, rest)),
-            TokenKind::Run => None,
-            TokenKind::Text => None,
-            TokenKind::Mark => None,
-        },
-    }
-}
 
 /// The kept text that stands here, and what is left behind it.
 pub fn kept_here<'t, 'a>(tokens: &'t [Token<'a>]) -> Option<(&'a [u8], &'t [Token<'a>])>

@@ -7,8 +7,9 @@ use Rattle.std.proofs.lemmas.Option.{same_Some}
 use Rattle.std.proofs.lemmas.List.{length-append}
 use Rattle.text_base.specs.Trees.{plus, minus, negation, BinaryOp, power, times, over, add, subtract, concat, less, less_equal, equal, not_equal, greater, greater_equal, conjunction, disjunction, equivalence, nonequivalence, Expr, unary, binary}
 use Rattle.text_base.proofs.Optional.{went, mapped}
-use Rattle.tree77.specs.Expressions.{Symbol, operand, operator, not_sign, Grammar, is_product, is_sum, is_concat, is_relation, is_conjunction, is_disjunction, is_equivalence, sign_symbol, Chain, chain_one, chain_more, Factor, factor_one, factor_power, Term, Signed, signed_none, signed_by, Sum, Concatenation, Relation, relation_one, relation_two, Negation, negation_none, negation_by, Conjunction, Disjunction, Equivalence}
+use Rattle.tree77.specs.Expressions.{Symbol, operand, alternate, operator, not_sign, opening, closing, comma, colon, Grammar, is_product, is_sum, is_concat, is_relation, is_conjunction, is_disjunction, is_equivalence, sign_symbol, Chain, chain_one, chain_more, Factor, factor_one, factor_power, Term, Signed, signed_none, signed_by, Sum, Concatenation, Relation, relation_one, relation_two, Negation, negation_none, negation_by, Conjunction, Disjunction, Equivalence}
 use Rattle.group77.specs.Grouping.{Reader, behind_operator, is_power, read_factor, more_at, read_more, read_chain, read_term, sign_of, signed_at, read_signed, read_sum, read_concatenation, related, read_relation, behind_not, negated_at, read_negation, read_conjunction, read_disjunction, read_equivalence, ended, group}
+use Rattle.group77.specs.Building.{build}
 use Rattle.group77.specs.Symbol.{grammar_symbol}
 use Rattle.group77.specs.declared.symbol.Symbol as code
 use Rattle.group77.proofs.GroupSteps.{operator_found, operator_stands, operator_fails, either, neither}
@@ -335,3 +336,22 @@ group_one s = refl
 pub one_grouped : (symbols before : List code.Symbol) (s : code.Symbol) → symbols ≡ before ++ s ∷ [] → length symbols ≡ 1 → group (map grammar_symbol symbols) ≡ tree_alone (grammar_symbol s)
 one_grouped symbols [] s is one = ap (λ w. group (map grammar_symbol w)) is ∙ group_one (grammar_symbol s)
 one_grouped symbols (b ∷ before) s is one = absurd (omega (arith, ap length is, length-append before (s ∷ [])))
+
+-- one symbol alone is built as it is grouped
+built_one : (s : Symbol) → build (s ∷ []) ≡ group (s ∷ [])
+unfolding build
+built_one (operand x) = refl
+built_one alternate = sym (group_one alternate)
+built_one (operator add) = refl
+built_one (operator subtract) = refl
+built_one (operator o) = sym (group_one (operator o))
+built_one not_sign = refl
+built_one opening = sym (group_one opening)
+built_one closing = sym (group_one closing)
+built_one comma = sym (group_one comma)
+built_one colon = sym (group_one colon)
+
+pub one_built : (symbols : List code.Symbol) → length symbols ≡ 1 → build (map grammar_symbol symbols) ≡ group (map grammar_symbol symbols)
+one_built [] one = absurd (omega (arith, one))
+one_built (s ∷ []) one = built_one (grammar_symbol s)
+one_built (s ∷ t ∷ ts) one = absurd (omega (arith, one))

@@ -50,15 +50,15 @@ fn opened(
 }
 
 impl Builder {
-    /// No parenthesis is open, and no symbol has been taken.
-    fn new(alloc: Global) -> Builder
-        ensures { state_of result ≡ machine.standing [] [] }
+    /// No parenthesis is open, and no symbol has been taken; there is room for so many.
+    fn new(alloc: Global, count: usize) -> Result<Builder, BuildError>
+        ensures { GivesSeen state_of result (Some (machine.standing [] [])) }
     {
-        Builder {
+        Ok(Builder {
             levels: Stack::new(alloc),
-            symbols: Symbols::new(alloc),
+            symbols: Symbols::from_vec(Vec::with_capacity(alloc, count)?),
             is_element: false,
-        }
+        })
     }
 
     /// Whether an operand stands last.
@@ -262,13 +262,16 @@ impl Builder {
     }
 }
 
-/// What the machine builds from all symbols.
-#[tactic(auto, unfolding(crate::specs::Building::build))]
+/// What the machine builds from all symbols. One symbol alone is grouped as it stands.
+#[tactic(auto, unfolding(crate::specs::Building::build), using(crate::proofs::GroupLaw::one_built))]
 fn build_all(alloc: Global, symbols: Symbols) -> Result<Expr, BuildError>
     ensures { Gives result (machine.build (map grammar_symbol symbols)) }
 {
+    if symbols.len() == 1 {
+        return group(alloc, symbols);
+    }
+    let mut builder = Builder::new(alloc, symbols.len())?;
     let mut left = Stack::from_items(alloc, symbols)?;
-    let mut builder = Builder::new(alloc);
     while let Some(symbol) = left.pop() {
         builder = builder.step(alloc, symbol)?;
     }

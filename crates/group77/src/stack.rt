@@ -62,6 +62,15 @@ impl<T> Stack<T> {
 }
 
 impl<T: Drop> Stack<T> {
+    /// No value, and room for so many. It fails for want of memory alone.
+    fn with_room(alloc: Global, count: usize) -> Result<Stack<T>, AllocError>
+        ensures { IfOk result (λ stack. stack ≡ []) }
+    {
+        Ok(Stack {
+            values: Items::from_vec(Vec::with_capacity(alloc, count)?),
+        })
+    }
+
     /// Puts a value on top. It fails for want of memory alone.
     pub fn push(&mut self, value: T) -> Result<(), AllocError>
         ensures { OnOk result (self.new ≡ value ∷ self.old) }
@@ -73,7 +82,7 @@ impl<T: Drop> Stack<T> {
     pub fn from_items(alloc: Global, mut items: Items<T>) -> Result<Stack<T>, AllocError>
         ensures { IfOk result (λ stack. stack ≡ items) }
     {
-        let mut stack = Stack::new(alloc);
+        let mut stack = Stack::with_room(alloc, items.len())?;
         while let Some(last) = items.pop() {
             stack.push(last)?;
         }

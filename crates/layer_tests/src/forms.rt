@@ -381,7 +381,7 @@ fn write_listed(alloc: Global, listed: &Listed77, out: &mut Bytes) -> Written {
             out.push(b'(')?;
             write_list(alloc, items.as_slice(), out)?;
             out.push(b';')?;
-            write_range(alloc, range, out)?;
+            write_range(alloc, range.get(), out)?;
             out.push(b')')
         }
     }
@@ -550,10 +550,10 @@ fn write_simple(alloc: Global, statement: &Stmt77, out: &mut Bytes) -> Written {
 // Writes a statement of input and output.
 fn write_transfer(alloc: Global, statement: &Stmt77, out: &mut Bytes) -> Written {
     match statement {
-        Stmt77::Read(by, items) => write_read(alloc, by, items.as_slice(), out),
+        Stmt77::Read(by, items) => write_read(alloc, by.get(), items.as_slice(), out),
         Stmt77::Write(control, items) => {
             out.extend(b"write")?;
-            write_control(alloc, control, out)?;
+            write_control(alloc, control.get(), out)?;
             write_items(alloc, b"", items.as_slice(), out)
         }
         Stmt77::Print(format, items) => {
@@ -563,15 +563,15 @@ fn write_transfer(alloc: Global, statement: &Stmt77, out: &mut Bytes) -> Written
         }
         Stmt77::Open(control) => {
             out.extend(b"open")?;
-            write_file_control(alloc, control, out)
+            write_file_control(alloc, control.get(), out)
         }
         Stmt77::Close(control) => {
             out.extend(b"close")?;
-            write_file_control(alloc, control, out)
+            write_file_control(alloc, control.get(), out)
         }
         Stmt77::Rewind(control) => {
             out.extend(b"rewind")?;
-            write_file_control(alloc, control, out)
+            write_file_control(alloc, control.get(), out)
         }
         _ => Ok(()),
     }
@@ -597,7 +597,7 @@ pub fn write_statement(alloc: Global, statement: &Statement77, out: &mut Bytes) 
         Statement77::Simple(simple) => write_simple(alloc, simple, out),
         Statement77::Guarded(condition, simple) => {
             write_condition(alloc, condition, out)?;
-            write_simple(alloc, simple, out)
+            write_simple(alloc, simple.get(), out)
         }
         Statement77::IfThen(condition) => {
             write_condition(alloc, condition, out)?;
@@ -614,7 +614,7 @@ pub fn write_statement(alloc: Global, statement: &Statement77, out: &mut Bytes) 
             out.extend(b"do ")?;
             write_label(alloc, *terminal, out)?;
             out.push(b' ')?;
-            write_range(alloc, range, out)
+            write_range(alloc, range.get(), out)
         }
         Statement77::End => out.extend(b"end"),
     }
@@ -651,7 +651,7 @@ fn told(alloc: Global, file: &[u8]) -> Result<Bytes, Fail> {
 #[test]
 fn statements_have_forms(rt: HostRuntime) -> Result<(), Fail> {
     let alloc = rt.alloc();
-    for row in rows_of(alloc, FORMS, 740, 2)?.iter() {
+    for row in rows_of(alloc, FORMS, 749, 2)?.iter() {
         row.check(&rt, 1, told(alloc, row.field(0))?.as_slice());
     }
     Ok(())

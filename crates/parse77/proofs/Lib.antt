@@ -1,3 +1,4 @@
+mod Joined
 mod ItemLists
 mod SameReading
 mod Looks

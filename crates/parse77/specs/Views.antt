@@ -1,5 +1,5 @@
 -- What contracts see of what is read.
-use Rattle.std.specs.Prelude.{ℕ, List, Option, Some, None}
+use Rattle.std.specs.Prelude.{ℕ, List, [], Option, Some, None}
 use Rattle.std.specs.Option.{option_map, option_and_then}
 use Rattle.text_base.specs.Pieces.{Piece}
 use Rattle.tree77.specs.FormTable as sort
@@ -8,7 +8,7 @@ use Rattle.tree77.specs.Lexemes.{first_lowest}
 use Rattle.tree77.specs.Spelling.{sort_in, keyword_sorts}
 use Rattle.tree77.specs.StatementPlain.{statement_of}
 use Rattle.tree77.specs.Statements as s
-use Rattle.tree77.specs.Statements.{declared}
+use Rattle.tree77.specs.Statements.{Statement, declared}
 use Rattle.tree77.specs.declared.statement.Statement77.{Statement77}
 use Rattle.scan77.specs.KindReading.{read_kind}
 use Rattle.scan77.specs.PieceSlice.{slice_of}
@@ -43,3 +43,29 @@ read_shape under (Labels rest) = whole_of sort.arithmetic_sort (slice_of rest)
 read_shape under (Block rest) = whole_of sort.then_sort (slice_of rest)
 read_shape under (Guard front rest) = under (slice_of front) (slice_of rest)
 read_shape under Other = None
+
+-- ---- parts of a statement that are read by themselves
+
+-- a statement where it is the beginning of a block IF, nothing where it is another
+abbrev pub as_test : Statement → Option Statement
+as_test (s.if_then x) = Some (s.if_then x)
+as_test _ = None
+
+-- where it is a simple one
+abbrev pub as_simple : Statement → Option Statement
+as_simple (s.simple a) = Some (s.simple a)
+as_simple _ = None
+
+-- where it is a type alone
+abbrev pub as_type : Statement → Option Statement
+as_type (declared (s.typed t [])) = Some (declared (s.typed t []))
+as_type _ = None
+
+-- where it is a FUNCTION statement without a type
+abbrev pub as_untyped : Statement → Option Statement
+as_untyped (s.header (s.function None x ds)) = Some (s.header (s.function None x ds))
+as_untyped _ = None
+
+-- what was read, where it is such a statement
+abbrev pub only : (Statement → Option Statement) → Read → Read
+only view read = option_and_then (λ p. option_map (λ x. (x, p.1)) (view p.0)) read

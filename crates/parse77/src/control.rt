@@ -14,7 +14,7 @@ use expr_tree::{Expr, Exprs};
 use forms77::{
     Feed, OneExpression, OneLabel, Rule, Stop, inside, list, list_inside, range, text_of,
 };
-use sqlite_items::Items;
+use sqlite_items::{Boxed, Items};
 use std::alloc::Global;
 use text_base::{Bytes, Name, StopCode};
 use tree77::{Statement77, Stmt77};
@@ -142,7 +142,7 @@ pub fn do_(alloc: Global, feed: &mut Feed<'_, '_>) -> Result<Statement77, Stop>
 {
     let terminal = feed.label()?;
     feed.take(b',');
-    let range = range(alloc, feed)?;
+    let range = Boxed::new(alloc, range(alloc, feed)?)?;
     Ok(Statement77::Do(terminal, range))
 }
 

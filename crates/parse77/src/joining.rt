@@ -1,17 +1,26 @@
 // Two parts of a statement as one.
-ghost use Rattle.std.specs.Prelude.{◌≡◌, []};
+ghost use Rattle.std.specs.Prelude.{◌≡◌, [], Some, None, IfOk};
 ghost use Rattle.std.specs.Option.{option_map};
 ghost use Rattle.expr_tree.specs.Plain.{expr_of};
-ghost use Rattle.tree77.specs.StatementPlain.{declared_of, header_of, statement_of, type_of};
+ghost use Rattle.tree77.specs.FormTable as sort;
+ghost use Rattle.tree77.specs.StatementPlain.{declared_of, header_of, simple_of, statement_of, type_of};
 ghost use Rattle.tree77.specs.Statements as plain;
+ghost use Rattle.scan77.specs.PieceSlice.{slice_of};
 ghost use Rattle.expr77.specs.Views.{plain_part};
+ghost use Rattle.forms77.specs.Whole.{whole_of};
 ghost use Rattle.parse77.specs.Reading as reading;
-ghost use Rattle.parse77.specs.Views.{read_made};
+ghost use Rattle.parse77.specs.Sort.{size_sort};
+ghost use Rattle.parse77.specs.Views.{read_made, only, as_test, as_simple, as_type, as_untyped};
 
-use crate::whole::{Read, discard};
-use expr77::Part;
-use forms77::lower_part;
-use tree77::{Declared77, Expr, Header77, Statement77, Type77};
+use crate::sort::{ControlSort, SizeSort, Sort};
+use crate::whole::{Read, whole};
+use expr77::{Part, lower_part};
+use forms77::discard;
+use scan77::PieceSlice;
+use sqlite_items::Boxed;
+use std::alloc::{AllocError, Global};
+use text_base::Name;
+use tree77::{Declared77, Expr, Header77, Names77, Statement77, Stmt77, Type77};
 
 /// The lower of two parts, the first of equal ones.
 fn lower<'a>(first: Option<Part<'a>>, second: Option<Part<'a>>) -> Option<Part<'a>>
@@ -23,13 +32,62 @@ fn lower<'a>(first: Option<Part<'a>>, second: Option<Part<'a>>) -> Option<Part<'
     }
 }
 
-/// A FUNCTION header with the type that stands before it. `None` where it is another, or has a type.
-fn typed_header(of: Type77, header: Header77) -> Option<Statement77>
-    ensures { option_map statement_of result ≡ reading.with_type (plain.declared (plain.typed (type_of of) [])) (plain.header (header_of header)) }
+/// The condition of the beginning of a block IF. `None` of other statements.
+fn test_in(statement: Statement77) -> Option<Expr>
+    ensures { option_map (λ x. plain.if_then (expr_of x)) result ≡ as_test (statement_of statement) }
+{
+    match statement {
+        Statement77::IfThen(test) => Some(test),
+        other => {
+            discard(other);
+            None
+        }
+    }
+}
+
+/// A simple statement. `None` of other statements.
+fn simple_in(alloc: Global, statement: Statement77) -> Result<Option<Boxed<Stmt77>>, AllocError>
+    ensures { IfOk result (λ made. option_map (λ a. plain.simple (simple_of a)) made ≡ as_simple (statement_of statement)) }
+{
+    match statement {
+        Statement77::Simple(simple) => Ok(Some(Boxed::new(alloc, simple)?)),
+        other => {
+            discard(other);
+            Ok(None)
+        }
+    }
+}
+
+/// The type of a declaration without names. `None` of other statements.
+fn declared_type(declared: Declared77) -> Option<Type77>
+    ensures { option_map (λ t. plain.declared (plain.typed (type_of t) [])) result ≡ as_type (plain.declared (declared_of declared)) }
+{
+    match declared {
+        Declared77::Typed(of, names) => { if names.is_empty() { Some(of) } else { None } }
+        _other => None,
+    }
+}
+
+/// The same of a statement.
+fn type_in(statement: Statement77) -> Option<Type77>
+    ensures { option_map (λ t. plain.declared (plain.typed (type_of t) [])) result ≡ as_type (statement_of statement) }
+{
+    match statement {
+        Statement77::Declared(declared) => declared_type(declared),
+        other => {
+            discard(other);
+            None
+        }
+    }
+}
+
+/// The name and the dummies of a FUNCTION header without a type. `None` of other headers.
+fn untyped_header(header: Header77) -> Option<(Name, Names77)>
+    ensures { option_map (λ p. plain.header (plain.function None p.0 p.1)) result ≡ as_untyped (plain.header (header_of header)) }
 {
     match header {
-        Header77::Function(before, name, dummies) => match before {
-            None => Some(Statement77::Header(Header77::Function(Some(of), name, dummies))),
+        Header77::Function(of, name, dummies) => match of {
+            None => Some((name, dummies)),
             Some(_type) => None,
         },
         Header77::Program(_name) => None,
@@ -38,100 +96,103 @@ fn typed_header(of: Type77, header: Header77) -> Option<Statement77>
     }
 }
 
-/// A FUNCTION statement with the type that stands before it. `None` where it is another statement, or has a type.
-fn with_header(of: Type77, header: Statement77) -> Option<Statement77>
-    ensures { option_map statement_of result ≡ reading.with_type (plain.declared (plain.typed (type_of of) [])) (statement_of header) }
-{
-    match header {
-        Statement77::Header(header) => typed_header(of, header),
-        other => {
-            discard(other);
-            None
-        }
-    }
-}
-
-/// A FUNCTION statement with the type that stands before it, as a declaration without names.
-fn with_declared(of: Declared77, header: Statement77) -> Option<Statement77>
-    ensures { option_map statement_of result ≡ reading.with_type (plain.declared (declared_of of)) (statement_of header) }
-{
-    match of {
-        Declared77::Typed(of, names) => {
-            if names.is_empty() {
-                with_header(of, header)
-            } else {
-                discard(header);
-                None
-            }
-        }
-        _other => {
-            discard(header);
-            None
-        }
-    }
-}
-
-/// The same with the declaration as a statement.
-fn with_type(of: Statement77, header: Statement77) -> Option<Statement77>
-    ensures { option_map statement_of result ≡ reading.with_type (statement_of of) (statement_of header) }
-{
-    match of {
-        Statement77::Declared(of) => with_declared(of, header),
-        other => {
-            discard(other);
-            discard(header);
-            None
-        }
-    }
-}
-
-/// Lets an expression go.
-fn forget(_expr: Expr) {}
-
-/// A simple statement under a condition (X3.9 section 11.5). `None` where it is another statement.
-fn under_test(test: Expr, statement: Statement77) -> Option<Statement77>
-    ensures { option_map statement_of result ≡ reading.guards (plain.if_then (expr_of test)) (statement_of statement) }
+/// The same of a statement.
+fn untyped_in(statement: Statement77) -> Option<(Name, Names77)>
+    ensures { option_map (λ p. plain.header (plain.function None p.0 p.1)) result ≡ as_untyped (statement_of statement) }
 {
     match statement {
-        Statement77::Simple(statement) => Some(Statement77::Guarded(test, statement)),
+        Statement77::Header(header) => untyped_header(header),
         other => {
             discard(other);
-            forget(test);
             None
         }
     }
 }
 
-/// A simple statement under a condition, as the beginning of a block.
-fn guarded(condition: Statement77, statement: Statement77) -> Option<Statement77>
-    ensures { option_map statement_of result ≡ reading.guards (statement_of condition) (statement_of statement) }
+/// What was read, where it is a condition.
+fn condition<'a>(read: Read<'a>) -> Option<(Expr, Option<Part<'a>>)>
+    ensures { option_map (λ p. (plain.if_then (expr_of p.0), option_map plain_part p.1)) result ≡ only as_test (read_made read.entry) }
 {
-    match condition {
-        Statement77::IfThen(test) => under_test(test, statement),
-        other => {
-            discard(other);
-            discard(statement);
-            None
+    let (statement, lowest) = read?;
+    let test = test_in(statement)?;
+    Some((test, lowest))
+}
+
+/// What was read, where it is a type alone.
+fn type_alone<'a>(read: Read<'a>) -> Option<(Type77, Option<Part<'a>>)>
+    ensures { option_map (λ p. (plain.declared (plain.typed (type_of p.0) []), option_map plain_part p.1)) result ≡ only as_type (read_made read.entry) }
+{
+    let (statement, lowest) = read?;
+    let of = type_in(statement)?;
+    Some((of, lowest))
+}
+
+/// What was read, where it is a simple statement. It fails for want of memory alone.
+pub fn simple<'a>(
+    alloc: Global,
+    read: Read<'a>,
+) -> Result<Option<(Boxed<Stmt77>, Option<Part<'a>>)>, AllocError>
+    ensures { IfOk result (λ made. option_map (λ p. (plain.simple (simple_of p.0), option_map plain_part p.1)) made ≡ only as_simple (read_made read.entry)) }
+{
+    let Some((statement, lowest)) = read else {
+        return Ok(None);
+    };
+    match simple_in(alloc, statement)? {
+        Some(simple) => Ok(Some((simple, lowest))),
+        None => Ok(None),
+    }
+}
+
+/// What was read, where it is a FUNCTION statement without a type.
+pub fn untyped<'a>(read: Read<'a>) -> Option<((Name, Names77), Option<Part<'a>>)>
+    ensures { option_map (λ p. (plain.header (plain.function None p.0.0 p.0.1), option_map plain_part p.1)) result ≡ only as_untyped (read_made read.entry) }
+{
+    let (statement, lowest) = read?;
+    let header = untyped_in(statement)?;
+    Some((header, lowest))
+}
+
+/// A simple statement under the condition that these pieces are (X3.9 section 11.5).
+#[tactic(auto, using(crate::proofs::Joined::tested))]
+pub fn guard<'a>(
+    alloc: Global,
+    front: PieceSlice<'a>,
+    simple: Boxed<Stmt77>,
+    second: Option<Part<'a>>,
+) -> Result<Read<'a>, AllocError>
+    ensures { IfOk result (λ made. read_made made ≡ reading.joined reading.guards (whole_of sort.condition_sort (slice_of front.entry)) (Some (plain.simple (simple_of simple), option_map plain_part second.entry))) }
+{
+    let read = whole(alloc, Sort::Control(ControlSort::Condition), front)?;
+    match condition(read) {
+        Some((test, first)) => Ok(Some((Statement77::Guarded(test, simple), lower(first, second)))),
+        None => {
+            discard(simple);
+            Ok(None)
         }
     }
 }
 
-/// What is read of a type and of the FUNCTION statement behind it, as one.
-pub fn join_type<'a>(of: Read<'a>, header: Read<'a>) -> Read<'a>
-    ensures { read_made result ≡ reading.joined reading.with_type (read_made of.entry) (read_made header.entry) }
+/// A FUNCTION statement behind a type, of which these pieces are the length (X3.9 section 15.5.1).
+#[tactic(auto, using(crate::proofs::Joined::sized))]
+pub fn typed<'a>(
+    alloc: Global,
+    of: SizeSort,
+    size: PieceSlice<'a>,
+    header: (Name, Names77),
+    second: Option<Part<'a>>,
+) -> Result<Read<'a>, AllocError>
+    ensures { IfOk result (λ made. read_made made ≡ reading.joined reading.with_type (whole_of (size_sort of) (slice_of size.entry)) (Some (plain.header (plain.function None header.0 header.1), option_map plain_part second.entry))) }
 {
-    let (of, first) = of?;
-    let (header, second) = header?;
-    let statement = with_type(of, header)?;
-    Some((statement, lower(first, second)))
-}
-
-/// What is read of a condition and of the statement under it, as one.
-pub fn join_guard<'a>(condition: Read<'a>, statement: Read<'a>) -> Read<'a>
-    ensures { read_made result ≡ reading.joined reading.guards (read_made condition.entry) (read_made statement.entry) }
-{
-    let (condition, first) = condition?;
-    let (statement, second) = statement?;
-    let statement = guarded(condition, statement)?;
-    Some((statement, lower(first, second)))
+    let read = whole(alloc, Sort::Size(of), size)?;
+    let (name, dummies) = header;
+    match type_alone(read) {
+        Some((of, first)) => Ok(Some((
+            Statement77::Header(Header77::Function(Some(of), name, dummies)),
+            lower(first, second),
+        ))),
+        None => {
+            discard(dummies);
+            Ok(None)
+        }
+    }
 }

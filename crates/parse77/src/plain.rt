@@ -1,6 +1,6 @@
 // Reads all statements but logical IF.
 ghost use Rattle.std.specs.Prelude.{◌≡◌, IfOk};
-ghost use Rattle.tree77.specs.Spelling.{size_sorts, stand_in, shown_word};
+ghost use Rattle.tree77.specs.Spelling.{size_sorts, stand_in};
 ghost use Rattle.tree77.specs.StatementPlain.{statement_of};
 ghost use Rattle.scan77.specs.Kind.{kind_of};
 ghost use Rattle.scan77.specs.PieceSlice.{slice_of};
@@ -13,11 +13,11 @@ ghost use Rattle.parse77.specs.Views as views;
 ghost use Rattle.parse77.specs.Views.{read_made};
 
 use crate::branch::{Branch, shape_of};
-use crate::joining::join_type;
+use crate::joining::{self, untyped};
 use crate::sort::{ControlSort, HeaderSort, SizeSort, Sort, sort_of_word};
 use crate::whole::{Read, behind, whole};
+use expr77::unsupported;
 use format77::FormatRead;
-use forms77::unsupported;
 use scan77::{Kind, PieceSlice, Word};
 use sqlite_items::Items;
 use std::alloc::{AllocError, Global};
@@ -57,9 +57,11 @@ fn sized<'a>(alloc: Global, sort: SizeSort, pieces: PieceSlice<'a>) -> Result<Re
     let Some((size, rest)) = pieces.split_size() else {
         return Ok(None);
     };
-    let header = behind(alloc, "FUNCTION", Sort::Header(HeaderSort::Function), rest)?;
-    let of = whole(alloc, Sort::Size(sort), size)?;
-    Ok(join_type(of, header))
+    let read = behind(alloc, "FUNCTION", Sort::Header(HeaderSort::Function), rest)?;
+    match untyped(read) {
+        Some((header, second)) => joining::typed(alloc, sort, size, header, second),
+        None => Ok(None),
+    }
 }
 
 /// Reads a FUNCTION statement that begins with a type (X3.9 section 15.5.1).
@@ -133,17 +135,6 @@ fn stands(word: Word) -> Statement77
     }
 }
 
-/// The word that such a refusal shows.
-fn shown(word: Word) -> &'static str
-    ensures { result.now ≡ shown_word (word_text word) }
-{
-    match word {
-        Word::DoWhile => "WHILE",
-        Word::ImplicitNone => "NONE",
-        _ => word.text(),
-    }
-}
-
 /// Reads a statement of this kind, unless it is a logical IF.
 pub fn read_plain<'a>(
     alloc: Global,
@@ -157,7 +148,7 @@ pub fn read_plain<'a>(
         Kind::Do => behind(alloc, "DO", Sort::Control(ControlSort::Do), pieces),
         Kind::Assign => whole(alloc, Sort::Control(ControlSort::Assignment), pieces),
         Kind::Keyword(word) => keyword(alloc, word, pieces),
-        Kind::Unsupported(word) => Ok(Some((stands(word), unsupported(shown(word))))),
+        Kind::Unsupported(word) => Ok(Some((stands(word), unsupported(word.shown())))),
         Kind::RefusedFunction(word) => Ok(Some((Statement77::End, unsupported(word.text())))),
         Kind::Nothing => Ok(None),
     }

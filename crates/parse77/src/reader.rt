@@ -10,9 +10,10 @@ ghost use Rattle.parse77.specs.Views.{read_made};
 
 use crate::statement::{ReadStatement, StatementOutcome, Statements};
 use crate::statements::read_statement;
-use crate::whole::{Read, discard};
+use crate::whole::Read;
 use card_reader::{Card, Deck};
 use expr77::Part;
+use forms77::discard;
 use scan77::{PieceSlice, pieces};
 use sqlite_items::Items;
 use std::alloc::{AllocError, Global};

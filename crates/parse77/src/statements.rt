@@ -7,7 +7,7 @@ ghost use Rattle.parse77.specs.Reading as reading;
 ghost use Rattle.parse77.specs.Views.{read_made, read_under};
 
 use crate::branch::{Branch, shape_of};
-use crate::joining::join_guard;
+use crate::joining::{guard, simple};
 use crate::plain::read_plain;
 use crate::sort::{ControlSort, Sort};
 use crate::whole::{Read, whole};
@@ -31,9 +31,11 @@ fn guarded<'a>(
 ) -> Result<Read<'a>, AllocError>
     ensures { IfOk result (λ made. read_made made ≡ reading.read_guarded (slice_of front.entry) (slice_of rest.entry)) }
 {
-    let statement = under(alloc, rest)?;
-    let condition = whole(alloc, Sort::Control(ControlSort::Condition), front)?;
-    Ok(join_guard(condition, statement))
+    let read = under(alloc, rest)?;
+    match simple(alloc, read)? {
+        Some((statement, second)) => guard(alloc, front, statement, second),
+        None => Ok(None),
+    }
 }
 
 /// Reads an IF (X3.9 sections 11.4 to 11.6).

@@ -10,8 +10,8 @@ ghost use Rattle.parse77.specs.SourceReading.{ReadCard, Ended, join_code, read_c
 ghost use Rattle.parse77.specs.Statement.{card_read};
 ghost use Rattle.parse77.specs.Unit.{adds, ended_of, header_name};
 
-use crate::whole::discard;
 use crate::{ReadStatement, StatementOutcome, Statements};
+use forms77::discard;
 use sqlite_items::Items;
 use std::alloc::{AllocError, Global};
 use text_base::{Name, Place};

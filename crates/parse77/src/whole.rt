@@ -13,16 +13,13 @@ ghost use Rattle.parse77.specs.Views.{read_made};
 
 use crate::sort::{Sort, read_form};
 use expr77::Part;
-use forms77::{Feed, Stop};
+use forms77::{Feed, Stop, discard};
 use scan77::{PieceSlice, ScanError, Token, Tokens, cut, one_cut};
 use std::alloc::{AllocError, Global};
 use tree77::Statement77;
 
 /// What pieces are read as: a statement, and its lowest part that is refused. `None` where they spell none.
 pub type Read<'a> = Option<(Statement77, Option<Part<'a>>)>;
-
-/// Lets a statement go.
-pub fn discard(_statement: Statement77) {}
 
 /// The tokens of some pieces. `None` where they can't be cut.
 fn tokens<'a>(alloc: Global, pieces: PieceSlice<'a>) -> Result<Option<Tokens<'a>>, AllocError>

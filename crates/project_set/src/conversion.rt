@@ -167,10 +167,9 @@ fn written_texts(alloc: Global, source: Source) -> Result<Outputs, AllocError>
 ///
 /// In: its bytes.
 ///
-/// Out: the text of the program, the map of its storage, and the report. Where something is refused of the bytes, `Refused`
-/// with all of it, phase by phase: of the lines, of the statements by themselves, of those that aren't converted yet, of them as a
-/// program. `Memory` may come in place of
-/// either where memory is wanted, and tells nothing of the file.
+/// Out: the text of the program, the map of its storage, and the report. Where something is refused of the bytes, `Refused` with
+/// all refusals of the first phase that has any: of the lines, of the statements by themselves, of those that aren't converted yet,
+/// of them as a program. `Memory` may come in place of either where memory is wanted, and tells nothing of the file.
 pub fn convert(alloc: Global, bytes: &[u8]) -> Result<Outputs, ConvertError>
     ensures converts { IfOk result (λ o. IsConversion bytes.now o.text o.map o.report) }
     ensures headline { IfOk result (λ o. IsFaithful bytes.now o.text o.map) }

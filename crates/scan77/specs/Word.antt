@@ -52,9 +52,3 @@ word_text word.Assign = codes "ASSIGN"
 word_text word.DoWhile = codes "DOWHILE"
 word_text word.EndDo = codes "ENDDO"
 word_text word.ImplicitNone = codes "IMPLICITNONE"
-
--- what a refusal of its statement shows
-abbrev pub shown_word : Word → List ℕ
-shown_word word.DoWhile = codes "WHILE"
-shown_word word.ImplicitNone = codes "NONE"
-shown_word other = word_text other

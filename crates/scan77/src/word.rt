@@ -1,7 +1,8 @@
 // The keywords that statements begin with.
 ghost use Rattle.std.specs.Prelude.{◌≡◌};
 ghost use Rattle.tree77.specs.Kinds.{accepted, is_among};
-ghost use Rattle.scan77.specs.Word.{word_text, shown_word};
+ghost use Rattle.tree77.specs.Spelling.{shown_word};
+ghost use Rattle.scan77.specs.Word.{word_text};
 
 /// A keyword of a statement. The last ones, from `Real` on, are those of statements that aren't accepted.
 #[derive(Clone, Copy, Debug, PartialEq, Eq)]
@@ -215,7 +216,7 @@ impl Word {
 
     /// What a refusal of its statement shows.
     pub fn shown(self) -> &'static str
-        ensures { result.now ≡ shown_word self }
+        ensures { result.now ≡ shown_word (word_text self) }
     {
         match self {
             Word::DoWhile => "WHILE",

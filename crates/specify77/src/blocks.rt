@@ -163,7 +163,12 @@ fn blocks_of(
     Ok(Items::from_vec(blocks))
 }
 
-/// `COMMON [/[block]/] list [[,] /[block]/ list] ..`.
+/// `COMMON [/[block]/] list [[,] /[block]/ list] ..` (X3.9 section 8.3).
+///
+/// In: what is left of the statement behind its keyword.
+///
+/// Out: the tree; `feed` then stands behind it and has the lowest refused part so far. `NotSpelled` where what is left doesn't
+/// begin with this form; `Memory` where memory is wanted.
 pub fn common(alloc: Global, feed: &mut Feed<'_, '_>) -> Result<Declared77, Stop>
     ensures { Gives declared_of result feed.new (read form.common feed.old) }
 {

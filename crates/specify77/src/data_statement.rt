@@ -132,7 +132,12 @@ impl Rule for NextGroup {
     }
 }
 
-/// `objects / values / [[,] objects / values /] ..`, of a statement of so many characters, which bound how lists nest.
+/// `DATA objects / values / [[,] objects / values /] ..` (X3.9 section 9.1).
+///
+/// In: what is left of the statement behind its keyword, and in `room` how many characters this has: lists nest no deeper.
+///
+/// Out: the tree; `feed` then stands behind it and has the lowest refused part so far. `NotSpelled` where what is left doesn't
+/// begin with this form; `Memory` where memory is wanted.
 pub fn data(alloc: Global, feed: &mut Feed<'_, '_>, room: usize) -> Result<Declared77, Stop>
     ensures { Gives declared_of result feed.new (read (form.data_ room) feed.old) }
 {

@@ -79,7 +79,12 @@ impl Rule for OneDimension {
     }
 }
 
-/// Dimensions in parentheses, seven at most.
+/// Dimensions in parentheses, seven at most (X3.9 section 5.1).
+///
+/// In: what is left of the statement behind a name.
+///
+/// Out: the tree; `feed` then stands behind it and has the lowest refused part so far. `NotSpelled` where what is left doesn't
+/// begin with this form; `Memory` where memory is wanted.
 pub fn dimensions(alloc: Global, feed: &mut Feed<'_, '_>) -> Result<Dimensions77, Stop>
     ensures { Gives (map dimension_of) result feed.new (read form.dimensions feed.old) }
 {
@@ -90,7 +95,12 @@ pub fn dimensions(alloc: Global, feed: &mut Feed<'_, '_>) -> Result<Dimensions77
     Ok(dimensions)
 }
 
-/// Dimensions in parentheses, or none.
+/// Dimensions in parentheses, seven at most, or none (X3.9 section 5.1).
+///
+/// In: what is left of the statement behind a name.
+///
+/// Out: the tree; `feed` then stands behind it and has the lowest refused part so far. `NotSpelled` where what is left doesn't
+/// begin with this form; `Memory` where memory is wanted.
 pub fn some_dimensions(alloc: Global, feed: &mut Feed<'_, '_>) -> Result<Dimensions77, Stop>
     ensures { Gives (map dimension_of) result feed.new (read form.some_dimensions feed.old) }
 {

@@ -14,6 +14,11 @@ use text_base::Name;
 use tree77::{Header77, Names77};
 
 /// `PROGRAM name` (X3.9 section 14.1).
+///
+/// In: what is left of the statement behind its keyword.
+///
+/// Out: the tree; `feed` then stands behind it and has the lowest refused part so far. `NotSpelled` where what is left doesn't
+/// begin with this form.
 pub fn program(feed: &mut Feed<'_, '_>) -> Result<Header77, Stop>
     ensures { Gives header_of result feed.new (read form.program feed.old) }
 {
@@ -80,6 +85,11 @@ fn names_of(alloc: Global, mut dummies: Items<Option<Name>>) -> Result<Names77, 
 }
 
 /// `SUBROUTINE name [([dummy, ..])]` (X3.9 section 15.6.1).
+///
+/// In: what is left of the statement behind its keyword.
+///
+/// Out: the tree; `feed` then stands behind it and has the lowest refused part so far. `NotSpelled` where what is left doesn't
+/// begin with this form; `Memory` where memory is wanted.
 pub fn subroutine(alloc: Global, feed: &mut Feed<'_, '_>) -> Result<Header77, Stop>
     ensures { Gives header_of result feed.new (read form.subroutine feed.old) }
 {
@@ -89,6 +99,11 @@ pub fn subroutine(alloc: Global, feed: &mut Feed<'_, '_>) -> Result<Header77, St
 }
 
 /// `FUNCTION name ([dummy, ..])` (X3.9 section 15.5.1).
+///
+/// In: what is left of the statement behind its keyword.
+///
+/// Out: the tree; `feed` then stands behind it and has the lowest refused part so far. `NotSpelled` where what is left doesn't
+/// begin with this form; `Memory` where memory is wanted.
 pub fn function(alloc: Global, feed: &mut Feed<'_, '_>) -> Result<Header77, Stop>
     ensures { Gives header_of result feed.new (read form.function feed.old) }
 {
@@ -98,6 +113,11 @@ pub fn function(alloc: Global, feed: &mut Feed<'_, '_>) -> Result<Header77, Stop
 }
 
 /// `BLOCK DATA [name]` (X3.9 section 16.1).
+///
+/// In: what is left of the statement behind its keyword.
+///
+/// Out: the tree; `feed` then stands behind it and has the lowest refused part so far. `NotSpelled` where what is left doesn't
+/// begin with this form.
 pub fn block_data(feed: &mut Feed<'_, '_>) -> Result<Header77, Stop>
     ensures { Gives header_of result feed.new (read form.block_data feed.old) }
 {

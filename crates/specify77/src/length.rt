@@ -9,9 +9,8 @@ ghost use Rattle.tree77.specs.StatementPlain.{length_of};
 ghost use Rattle.tree77.specs.Statements as plain;
 
 use expr_tree::Expr;
-use forms77::{
-    Feed, Look, OneExpression, Rule, Stop, great_number, integer, perhaps, unsupported, value_or_0,
-};
+use expr77::{great_number, unsupported};
+use forms77::{Feed, Look, OneExpression, Rule, Stop, integer, perhaps, value_or_0};
 use std::alloc::Global;
 use tree77::Length77;
 

@@ -147,7 +147,12 @@ impl Rule for OneImplicit {
     }
 }
 
-/// `IMPLICIT type (letters, ..), ..`.
+/// `IMPLICIT type (letters, ..), ..` (X3.9 section 8.5).
+///
+/// In: what is left of the statement behind its keyword.
+///
+/// Out: the tree; `feed` then stands behind it and has the lowest refused part so far. `NotSpelled` where what is left doesn't
+/// begin with this form; `Memory` where memory is wanted.
 pub fn implicit(alloc: Global, feed: &mut Feed<'_, '_>) -> Result<Declared77, Stop>
     ensures { Gives declared_of result feed.new (read form.implicit feed.old) }
 {

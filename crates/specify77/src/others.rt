@@ -38,6 +38,11 @@ impl Rule for OneEquation {
 }
 
 /// `PARAMETER (name = e, ..)` (X3.9 section 8.6).
+///
+/// In: what is left of the statement behind its keyword.
+///
+/// Out: the tree; `feed` then stands behind it and has the lowest refused part so far. `NotSpelled` where what is left doesn't
+/// begin with this form; `Memory` where memory is wanted.
 pub fn parameter(alloc: Global, feed: &mut Feed<'_, '_>) -> Result<Declared77, Stop>
     ensures { Gives declared_of result feed.new (read form.parameter feed.old) }
 {
@@ -46,6 +51,11 @@ pub fn parameter(alloc: Global, feed: &mut Feed<'_, '_>) -> Result<Declared77, S
 }
 
 /// `DIMENSION name (dimensions), ..` (X3.9 section 8.1).
+///
+/// In: what is left of the statement behind its keyword.
+///
+/// Out: the tree; `feed` then stands behind it and has the lowest refused part so far. `NotSpelled` where what is left doesn't
+/// begin with this form; `Memory` where memory is wanted.
 pub fn dimension(alloc: Global, feed: &mut Feed<'_, '_>) -> Result<Declared77, Stop>
     ensures { Gives declared_of result feed.new (read form.dimension feed.old) }
 {
@@ -101,6 +111,11 @@ impl Rule for OneShare {
 }
 
 /// `EQUIVALENCE (list), ..` (X3.9 section 8.2).
+///
+/// In: what is left of the statement behind its keyword.
+///
+/// Out: the tree; `feed` then stands behind it and has the lowest refused part so far. `NotSpelled` where what is left doesn't
+/// begin with this form; `Memory` where memory is wanted.
 pub fn equivalence(alloc: Global, feed: &mut Feed<'_, '_>) -> Result<Declared77, Stop>
     ensures { Gives declared_of result feed.new (read form.equivalence feed.old) }
 {
@@ -108,6 +123,11 @@ pub fn equivalence(alloc: Global, feed: &mut Feed<'_, '_>) -> Result<Declared77,
 }
 
 /// `EXTERNAL name, ..` (X3.9 section 8.7).
+///
+/// In: what is left of the statement behind its keyword.
+///
+/// Out: the tree; `feed` then stands behind it and has the lowest refused part so far. `NotSpelled` where what is left doesn't
+/// begin with this form; `Memory` where memory is wanted.
 pub fn external(alloc: Global, feed: &mut Feed<'_, '_>) -> Result<Declared77, Stop>
     ensures { Gives declared_of result feed.new (read form.external feed.old) }
 {
@@ -115,6 +135,11 @@ pub fn external(alloc: Global, feed: &mut Feed<'_, '_>) -> Result<Declared77, St
 }
 
 /// `INTRINSIC name, ..` (X3.9 section 8.8).
+///
+/// In: what is left of the statement behind its keyword.
+///
+/// Out: the tree; `feed` then stands behind it and has the lowest refused part so far. `NotSpelled` where what is left doesn't
+/// begin with this form; `Memory` where memory is wanted.
 pub fn intrinsic(alloc: Global, feed: &mut Feed<'_, '_>) -> Result<Declared77, Stop>
     ensures { Gives declared_of result feed.new (read form.intrinsic feed.old) }
 {
@@ -145,6 +170,11 @@ impl Rule for OneSaved {
 }
 
 /// `SAVE [list]` (X3.9 section 8.9).
+///
+/// In: what is left of the statement behind its keyword.
+///
+/// Out: the tree; `feed` then stands behind it and has the lowest refused part so far. `NotSpelled` where what is left doesn't
+/// begin with this form; `Memory` where memory is wanted.
 pub fn save(alloc: Global, feed: &mut Feed<'_, '_>) -> Result<Declared77, Stop>
     ensures { Gives declared_of result feed.new (read form.save feed.old) }
 {

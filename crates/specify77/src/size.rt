@@ -67,7 +67,12 @@ impl Rule for RefusedSize {
     }
 }
 
-/// INTEGER, with a length that is refused or none.
+/// INTEGER, with a length that is refused or none (X3.9 section 15.5.1).
+///
+/// In: what is left behind the type, of what stands before FUNCTION.
+///
+/// Out: the tree; `feed` then stands behind it and has the lowest refused part so far. `NotSpelled` where what is left doesn't
+/// begin with this form; `Memory` where memory is wanted.
 pub fn integer_size(alloc: Global, feed: &mut Feed<'_, '_>) -> Result<Type77, Stop>
     ensures { Gives type_of result feed.new (read form.integer_size feed.old) }
 {
@@ -75,7 +80,12 @@ pub fn integer_size(alloc: Global, feed: &mut Feed<'_, '_>) -> Result<Type77, St
     Ok(Type77::Integer)
 }
 
-/// LOGICAL, with a length that is refused or none.
+/// LOGICAL, with a length that is refused or none (X3.9 section 15.5.1).
+///
+/// In: what is left behind the type, of what stands before FUNCTION.
+///
+/// Out: the tree; `feed` then stands behind it and has the lowest refused part so far. `NotSpelled` where what is left doesn't
+/// begin with this form; `Memory` where memory is wanted.
 pub fn logical_size(alloc: Global, feed: &mut Feed<'_, '_>) -> Result<Type77, Stop>
     ensures { Gives type_of result feed.new (read form.logical_size feed.old) }
 {
@@ -83,7 +93,12 @@ pub fn logical_size(alloc: Global, feed: &mut Feed<'_, '_>) -> Result<Type77, St
     Ok(Type77::Logical)
 }
 
-/// CHARACTER, with its length where it is written.
+/// CHARACTER, with its length where it is written (X3.9 section 15.5.1).
+///
+/// In: what is left behind the type, of what stands before FUNCTION.
+///
+/// Out: the tree; `feed` then stands behind it and has the lowest refused part so far. `NotSpelled` where what is left doesn't
+/// begin with this form; `Memory` where memory is wanted.
 pub fn character_size(alloc: Global, feed: &mut Feed<'_, '_>) -> Result<Type77, Stop>
     ensures { Gives type_of result feed.new (read form.character_size feed.old) }
 {

@@ -50,7 +50,7 @@ impl Rule for SeparatedLength {
     }
 }
 
-/// The names of a type without a length.
+/// The names of a type that has no length; one that stands there is refused.
 fn names_of_type(alloc: Global, feed: &mut Feed<'_, '_>) -> Result<Declarators77, Stop>
     ensures { Gives (map declarator_of) result feed.new (read form.names_of_type feed.old) }
 {
@@ -58,7 +58,12 @@ fn names_of_type(alloc: Global, feed: &mut Feed<'_, '_>) -> Result<Declarators77
     list(alloc, feed, &OneDeclarator)
 }
 
-/// INTEGER: `name [(dimensions)], ..` (X3.9 section 8.4.1).
+/// INTEGER: `[*length [,]] name [(dimensions)], ..`, of which a length is refused with LENGTH (X3.9 section 8.4.1).
+///
+/// In: what is left of the statement behind its keyword.
+///
+/// Out: the tree; `feed` then stands behind it and has the lowest refused part so far. `NotSpelled` where what is left doesn't
+/// begin with this form; `Memory` where memory is wanted.
 pub fn integers(alloc: Global, feed: &mut Feed<'_, '_>) -> Result<Declared77, Stop>
     ensures { Gives declared_of result feed.new (read form.integers feed.old) }
 {
@@ -66,7 +71,12 @@ pub fn integers(alloc: Global, feed: &mut Feed<'_, '_>) -> Result<Declared77, St
     Ok(Declared77::Typed(Type77::Integer, names))
 }
 
-/// LOGICAL: `name [(dimensions)], ..` (X3.9 section 8.4.1).
+/// LOGICAL: `[*length [,]] name [(dimensions)], ..`, of which a length is refused with LENGTH (X3.9 section 8.4.1).
+///
+/// In: what is left of the statement behind its keyword.
+///
+/// Out: the tree; `feed` then stands behind it and has the lowest refused part so far. `NotSpelled` where what is left doesn't
+/// begin with this form; `Memory` where memory is wanted.
 pub fn logicals(alloc: Global, feed: &mut Feed<'_, '_>) -> Result<Declared77, Stop>
     ensures { Gives declared_of result feed.new (read form.logicals feed.old) }
 {
@@ -99,6 +109,11 @@ impl Rule for OneCharacter {
 }
 
 /// CHARACTER: `[*length [,]] name [(dimensions)] [*length], ..` (X3.9 section 8.4.2).
+///
+/// In: what is left of the statement behind its keyword.
+///
+/// Out: the tree; `feed` then stands behind it and has the lowest refused part so far. `NotSpelled` where what is left doesn't
+/// begin with this form; `Memory` where memory is wanted.
 pub fn characters(alloc: Global, feed: &mut Feed<'_, '_>) -> Result<Declared77, Stop>
     ensures { Gives declared_of result feed.new (read form.characters feed.old) }
 {

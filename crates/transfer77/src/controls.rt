@@ -9,11 +9,11 @@ ghost use Rattle.tree77.specs.StatementPlain.{unit_ref_of, format_ref_of, contro
 ghost use Rattle.tree77.specs.TransferForms as form;
 ghost use Rattle.transfer77.specs.Views.{settings_of, specifiers_of, keyword_of};
 
-use crate::settings::{Settings, collect, discard};
+use crate::settings::{Settings, collect};
 use crate::specifiers::{FileSpecifiers, Keywords, Specifiers, TransferSpecifiers};
 use expr_tree::Expr;
-use expr77::Part;
-use forms77::{Feed, Stop, inside, unsupported};
+use expr77::{Part, unsupported};
+use forms77::{Feed, Stop, discard, inside};
 use std::alloc::Global;
 use tree77::{Control77, FileControl77, FormatRef77, UnitRef77};
 
@@ -112,6 +112,11 @@ fn collected_control(specifiers: Specifiers) -> Option<(Control77, Option<Part<'
 }
 
 /// Takes the control list of a READ or WRITE, in parentheses (X3.9 section 12.8.1).
+///
+/// In: what is left of the statement behind its keyword, and of which statement the specifiers are.
+///
+/// Out: the tree; `feed` then stands behind it and has the lowest refused part so far. `NotSpelled` where what is left doesn't
+/// begin with this form; `Memory` where memory is wanted.
 pub fn control(
     alloc: Global,
     feed: &mut Feed<'_, '_>,
@@ -178,6 +183,11 @@ fn collected_file_control(specifiers: Specifiers) -> Option<FileControl77>
 }
 
 /// Takes the control list of an OPEN, CLOSE or REWIND, in parentheses (X3.9 section 12.10).
+///
+/// In: what is left of the statement behind its keyword, and of which statement the specifiers are.
+///
+/// Out: the tree; `feed` then stands behind it and has the lowest refused part so far. `NotSpelled` where what is left doesn't
+/// begin with this form; `Memory` where memory is wanted.
 pub fn file_control(
     alloc: Global,
     feed: &mut Feed<'_, '_>,

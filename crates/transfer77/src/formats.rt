@@ -5,11 +5,17 @@ ghost use Rattle.tree77.specs.StatementPlain.{unit_ref_of, format_ref_of};
 ghost use Rattle.tree77.specs.TransferForms as form;
 ghost use Rattle.transfer77.specs.Parts as part;
 
-use forms77::{Feed, Look, OneExpression, Rule, Stop, is_label, label_number, unsupported};
+use expr77::{is_label, unsupported};
+use forms77::{Feed, Look, OneExpression, Rule, Stop, label_number};
 use std::alloc::Global;
 use tree77::{FormatRef77, UnitRef77};
 
 /// Takes a unit: `*`, or an expression (X3.9 section 12.3).
+///
+/// In: what is left of the statement.
+///
+/// Out: the tree; `feed` then stands behind it and has the lowest refused part so far. `NotSpelled` where what is left doesn't
+/// begin with this form; `Memory` where memory is wanted.
 pub fn unit(alloc: Global, feed: &mut Feed<'_, '_>) -> Result<UnitRef77, Stop>
     ensures { Gives unit_ref_of result feed.new (read form.unit feed.old) }
 {
@@ -52,6 +58,11 @@ fn other_format(alloc: Global, feed: &mut Feed<'_, '_>) -> Result<FormatRef77, S
 }
 
 /// Takes a format: `*`, a label or a character constant (X3.9 section 12.4); another expression is refused.
+///
+/// In: what is left of the statement.
+///
+/// Out: the tree; `feed` then stands behind it and has the lowest refused part so far. `NotSpelled` where what is left doesn't
+/// begin with this form; `Memory` where memory is wanted.
 pub fn format(alloc: Global, feed: &mut Feed<'_, '_>) -> Result<FormatRef77, Stop>
     ensures { Gives format_ref_of result feed.new (read form.format feed.old) }
 {

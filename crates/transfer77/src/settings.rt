@@ -7,6 +7,7 @@ ghost use Rattle.transfer77.specs.Views.{settings_of, specifier_of, others_of, s
 
 use crate::specifiers::{Others, Specifier, Specifiers};
 use expr_tree::Expr;
+use forms77::discard;
 use sqlite_items::Items;
 use text_base::Name;
 use tree77::{FormatRef77, UnitRef77};
@@ -110,9 +111,6 @@ impl Settings {
         false
     }
 }
-
-/// Lets a value go. What drops large trees calls this, so that their parts are taken apart in one place.
-pub fn discard<T: Drop>(_value: T) {}
 
 /// Sets what isn't set yet, and says whether it wasn't.
 fn set<T: Drop>(place: &mut Option<T>, value: T) -> bool

@@ -9,11 +9,9 @@ ghost use Rattle.transfer77.specs.Views.{specifier_of, others_of, specifiers_of,
 ghost use Rattle.transfer77.specs.Parts as part;
 
 use crate::formats::{format, unit};
-use crate::settings::discard;
 use expr_tree::Expr;
-use forms77::{
-    Feed, Look, OneExpression, Rule, Stop, is_designator, many, unsupported, variable_of,
-};
+use expr77::unsupported;
+use forms77::{Feed, Look, OneExpression, Rule, Stop, discard, is_designator, many, variable_of};
 use sqlite_items::Items;
 use std::alloc::Global;
 use text_base::Name;

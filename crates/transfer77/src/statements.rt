@@ -10,11 +10,10 @@ ghost use Rattle.transfer77.specs.Parts as part;
 
 use crate::controls::{control, file_control};
 use crate::formats::format;
-use crate::settings::discard;
 use crate::specifiers::Keywords;
 use expr_tree::Expr;
-use forms77::{Feed, Look, OneExpression, Rule, Stop, input_items, output_items};
-use sqlite_items::Items;
+use forms77::{Feed, Look, OneExpression, Rule, Stop, discard, input_items, output_items};
+use sqlite_items::{Boxed, Items};
 use std::alloc::Global;
 use tree77::{FileControl77, Listeds77, ReadBy77, Stmt77};
 
@@ -62,11 +61,12 @@ fn outputs_behind(alloc: Global, feed: &mut Feed<'_, '_>, room: usize) -> Result
 fn read_by_control(alloc: Global, feed: &mut Feed<'_, '_>, room: usize) -> Result<Stmt77, Stop>
     ensures { Gives simple_of result feed.new (reading.read (form.read_by_control room) feed.old) }
 {
-    let control = control(alloc, feed, Keywords::Read)?;
+    let control = ReadBy77::Control(control(alloc, feed, Keywords::Read)?);
+    let by = Boxed::new(alloc, control)?;
     match some_inputs(alloc, feed, room) {
-        Ok(items) => Ok(Stmt77::Read(ReadBy77::Control(control), items)),
+        Ok(items) => Ok(Stmt77::Read(by, items)),
         Err(stop) => {
-            discard(control);
+            discard(by);
             Err(stop)
         }
     }
@@ -76,21 +76,26 @@ fn read_by_control(alloc: Global, feed: &mut Feed<'_, '_>, room: usize) -> Resul
 fn read_by_format(alloc: Global, feed: &mut Feed<'_, '_>, room: usize) -> Result<Stmt77, Stop>
     ensures { Gives simple_of result feed.new (reading.read (form.read_by_format room) feed.old) }
 {
-    let format = format(alloc, feed)?;
+    let by = Boxed::new(alloc, ReadBy77::Format(format(alloc, feed)?))?;
     match inputs_behind(alloc, feed, room) {
-        Ok(items) => Ok(Stmt77::Read(ReadBy77::Format(format), items)),
+        Ok(items) => Ok(Stmt77::Read(by, items)),
         Err(stop) => {
-            discard(format);
+            discard(by);
             Err(stop)
         }
     }
 }
 
 /// `READ (control) [list]`, `READ format [, list]` (X3.9 section 12.8).
+///
+/// In: what is left of the statement behind its keyword, and in `room` how many characters this has: lists nest no deeper.
+///
+/// Out: the tree; `feed` then stands behind it and has the lowest refused part so far. `NotSpelled` where what is left doesn't
+/// begin with this form; `Memory` where memory is wanted.
 pub fn read(alloc: Global, feed: &mut Feed<'_, '_>, room: usize) -> Result<Stmt77, Stop>
     ensures { Gives simple_of result feed.new (reading.read (form.read room) feed.old) }
 {
-    if feed.is_ahead(Look::Group(",")) {
+    if feed.is_ahead(Look::Group(",/*+-.")) {
         return read_by_format(alloc, feed, room);
     }
     if feed.is_ahead(Look::One("(")) {
@@ -100,10 +105,15 @@ pub fn read(alloc: Global, feed: &mut Feed<'_, '_>, room: usize) -> Result<Stmt7
 }
 
 /// `WRITE (control) [list]` (X3.9 section 12.8).
+///
+/// In: what is left of the statement behind its keyword, and in `room` how many characters this has: lists nest no deeper.
+///
+/// Out: the tree; `feed` then stands behind it and has the lowest refused part so far. `NotSpelled` where what is left doesn't
+/// begin with this form; `Memory` where memory is wanted.
 pub fn write(alloc: Global, feed: &mut Feed<'_, '_>, room: usize) -> Result<Stmt77, Stop>
     ensures { Gives simple_of result feed.new (reading.read (form.write room) feed.old) }
 {
-    let control = control(alloc, feed, Keywords::Write)?;
+    let control = Boxed::new(alloc, control(alloc, feed, Keywords::Write)?)?;
     match some_outputs(alloc, feed, room) {
         Ok(items) => Ok(Stmt77::Write(control, items)),
         Err(stop) => {
@@ -114,6 +124,11 @@ pub fn write(alloc: Global, feed: &mut Feed<'_, '_>, room: usize) -> Result<Stmt
 }
 
 /// `PRINT format [, list]` (X3.9 section 12.8).
+///
+/// In: what is left of the statement behind its keyword, and in `room` how many characters this has: lists nest no deeper.
+///
+/// Out: the tree; `feed` then stands behind it and has the lowest refused part so far. `NotSpelled` where what is left doesn't
+/// begin with this form; `Memory` where memory is wanted.
 pub fn print(alloc: Global, feed: &mut Feed<'_, '_>, room: usize) -> Result<Stmt77, Stop>
     ensures { Gives simple_of result feed.new (reading.read (form.print room) feed.old) }
 {
@@ -128,17 +143,29 @@ pub fn print(alloc: Global, feed: &mut Feed<'_, '_>, room: usize) -> Result<Stmt
 }
 
 /// `OPEN (control)` (X3.9 section 12.10.1).
+///
+/// In: what is left of the statement behind its keyword.
+///
+/// Out: the tree; `feed` then stands behind it and has the lowest refused part so far. `NotSpelled` where what is left doesn't
+/// begin with this form; `Memory` where memory is wanted.
 pub fn open(alloc: Global, feed: &mut Feed<'_, '_>) -> Result<Stmt77, Stop>
     ensures { Gives simple_of result feed.new (reading.read form.open_ feed.old) }
 {
-    Ok(Stmt77::Open(file_control(alloc, feed, Keywords::Open)?))
+    let control = file_control(alloc, feed, Keywords::Open)?;
+    Ok(Stmt77::Open(Boxed::new(alloc, control)?))
 }
 
 /// `CLOSE (control)` (X3.9 section 12.10.2).
+///
+/// In: what is left of the statement behind its keyword.
+///
+/// Out: the tree; `feed` then stands behind it and has the lowest refused part so far. `NotSpelled` where what is left doesn't
+/// begin with this form; `Memory` where memory is wanted.
 pub fn close(alloc: Global, feed: &mut Feed<'_, '_>) -> Result<Stmt77, Stop>
     ensures { Gives simple_of result feed.new (reading.read form.close_ feed.old) }
 {
-    Ok(Stmt77::Close(file_control(alloc, feed, Keywords::Close)?))
+    let control = file_control(alloc, feed, Keywords::Close)?;
+    Ok(Stmt77::Close(Boxed::new(alloc, control)?))
 }
 
 /// A unit alone.
@@ -155,11 +182,18 @@ fn unit_alone(unit: Expr) -> FileControl77
 }
 
 /// `REWIND (control)`, `REWIND unit` (X3.9 section 12.10.4).
+///
+/// In: what is left of the statement behind its keyword.
+///
+/// Out: the tree; `feed` then stands behind it and has the lowest refused part so far. `NotSpelled` where what is left doesn't
+/// begin with this form; `Memory` where memory is wanted.
 pub fn rewind(alloc: Global, feed: &mut Feed<'_, '_>) -> Result<Stmt77, Stop>
     ensures { Gives simple_of result feed.new (reading.read form.rewind feed.old) }
 {
     if feed.is_ahead(Look::Group("\0")) {
-        return Ok(Stmt77::Rewind(file_control(alloc, feed, Keywords::Close)?));
+        let control = file_control(alloc, feed, Keywords::Close)?;
+        return Ok(Stmt77::Rewind(Boxed::new(alloc, control)?));
     }
-    Ok(Stmt77::Rewind(unit_alone(OneExpression.read(alloc, feed)?)))
+    let control = unit_alone(OneExpression.read(alloc, feed)?);
+    Ok(Stmt77::Rewind(Boxed::new(alloc, control)?))
 }

@@ -204,9 +204,9 @@ read_by_control n = made (λ p. s.read (s.by_control p.0) (listeds_of p.1)) (bot
 abbrev pub read_by_format : ℕ → Form Simple
 read_by_format n = made (λ p. s.read (s.by_format p.0) (listeds_of (or_none p.1))) (both format (perhaps 44 (listed (input_item n))))
 
--- `READ (control) [list]`, `READ format [, list]`: a format in parentheses has a comma behind it
+-- `READ (control) [list]`, `READ format [, list]`: a format that begins with parentheses has a comma or an operator behind them
 abbrev pub read : ℕ → Form Simple
-read n = told (group (codes ",")) (read_by_format n) (told (one (codes "(")) (read_by_control n) (read_by_format n))
+read n = told (group (codes ",/*+-.")) (read_by_format n) (told (one (codes "(")) (read_by_control n) (read_by_format n))
 
 -- `WRITE (control) [list]`
 abbrev pub write : ℕ → Form Simple

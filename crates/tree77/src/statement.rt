@@ -1,6 +1,6 @@
 // The trees of FORTRAN 77 statements, one by one.
 use expr_tree::{Expr, Exprs};
-use sqlite_items::Items;
+use sqlite_items::{Boxed, Items};
 use text_base::{Bytes, FormatItems, Name, StopCode};
 
 /// A list of names, which contracts see as the list.
@@ -94,7 +94,7 @@ pub struct Range77 {
 #[derive(Debug, Drop)]
 pub enum Listed77 {
     Item(Expr),
-    Loop(Listeds77, Range77),
+    Loop(Listeds77, Boxed<Range77>),
 }
 
 /// A list of items, which contracts see as the list.
@@ -206,12 +206,12 @@ pub enum Stmt77 {
     Return,
     Stop(Option<StopCode>),
     Call(Name, Exprs),
-    Read(ReadBy77, Listeds77),
-    Write(Control77, Listeds77),
+    Read(Boxed<ReadBy77>, Listeds77),
+    Write(Boxed<Control77>, Listeds77),
     Print(FormatRef77, Listeds77),
-    Open(FileControl77),
-    Close(FileControl77),
-    Rewind(FileControl77),
+    Open(Boxed<FileControl77>),
+    Close(Boxed<FileControl77>),
+    Rewind(Boxed<FileControl77>),
 }
 
 /// A statement by itself: a header, a declaration, a statement function with its dummies and its expression (X3.9 section
@@ -226,11 +226,11 @@ pub enum Statement77 {
     Declared(Declared77),
     StmtFunction(Name, Names77, Expr),
     Simple(Stmt77),
-    Guarded(Expr, Stmt77),
+    Guarded(Expr, Boxed<Stmt77>),
     IfThen(Expr),
     ElseIf(Expr),
     Else,
     EndIf,
-    Do(u32, Range77),
+    Do(u32, Boxed<Range77>),
     End,
 }

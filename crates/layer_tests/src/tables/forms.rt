@@ -838,6 +838,9 @@ open(unit 7,file "A.DAT",status "OLD",iostat K,err 10)
       READ (5, 10, IOSTAT=C(1:2)) I ~ 8 CONTROL
       READ (5, 10, IOSTAT=K, IOSTAT=A(1)) I ~ 8 CONTROL
       READ (5, 10, IOSTAT=J, IOSTAT=K) I ~ 7 READ(5,10,IO
+      READ (A)//B, C ~ 8 FORMAT
+      READ (A)//B ~ 8 FORMAT
+      READ (N)+1, I ~ 8 FORMAT
 
 # no statements
       X ~ 7 X
@@ -865,4 +868,16 @@ format: (\199{1(}1i5\199{)})
 8 DEPTH
    10 FORMAT(F5.1,\53{(}\n     1\66{(}\n     1\66{(}\n     1\15{(}I5\49{)}\n     1\66{)}\n     1\66{)}\n     1\20{)} ~ \
 8 EDIT
+      CALL S(\59{(}\n     1\66{(}\n     1\66{(}\n     1\8{(}A\57{)}\n     1\66{)}\n     1\66{)}\n     1\11{)} ~ \
+call S[\199{(}A\199{)}]
+      CALL S(\59{(}\n     1\66{(}\n     1\66{(}\n     1\9{(}A\56{)}\n     1\66{)}\n     1\66{)}\n     1\13{)} ~ \
+8 DEPTH
+      WRITE (\59{(}\n     1\66{(}\n     1\66{(}\n     1\8{(}6\57{)}\n     1\66{)}\n     1\66{)}\n     1\10{)}, *) ~ \
+write(unit \199{(}6\199{)},format *)
+      WRITE (\59{(}\n     1\66{(}\n     1\66{(}\n     1\9{(}6\56{)}\n     1\66{)}\n     1\66{)}\n     1\12{)}, *) ~ \
+8 DEPTH
+      PRINT '\59{(}\n     1\66{(}\n     1\66{(}\n     1\9{(}A\56{)}\n     1\66{)}\n     1\66{)}\n     1\12{)}' ~ \
+print "\200{(}A\200{)}"(\199{1(}1a\199{)})
+      PRINT '\59{(}\n     1\66{(}\n     1\66{(}\n     1\10{(}A\55{)}\n     1\66{)}\n     1\66{)}\n     1\14{)}' ~ \
+8 DEPTH
 "#;

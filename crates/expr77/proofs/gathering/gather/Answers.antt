@@ -12,7 +12,7 @@ pub loop-init : goal.loop-init
 loop-init c =
     let turns : length c.args.tokens.now - 0 ≡ length (tokens_of c.args.tokens.now) = omega (arith, length-map c.args.tokens.now token_of) in
     let all = all_left (nothing_gathered (option_map plain_part c.args.lowest)) c.args.depth (length c.args.tokens.now - 0) (tokens_of c.args.tokens.now) turns in
-    (rw c.new-symbols.ensures all, omega arith)
+    (rw (c.from_vec-symbols.ensures ∙ c.in_ok-with_capacity.ensures.items) all, omega arith)
 
 pub returns-then-not-branch : goal.returns-then-not-branch
 returns-then-not-branch c =
