@@ -1,7 +1,7 @@
 -- From what is wanted to what is printed.
 use Rattle.std.proofs.Common.{◌≡◌, inl, inr, ℕ, List, Option, sym, subst}
 use Rattle.text_base.specs.Files.{Files}
-use Rattle.tree77.specs.Tree.{SourceProgram}
+use Rattle.program77.specs.Tree.{SourceProgram}
 use Rattle.project_set.specs.Conversion.{program_report, IsConvertible}
 use Rattle.command.specs.Words.{Command}
 use Rattle.command.specs.Outputs.{with_files, outputs}

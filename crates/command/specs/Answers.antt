@@ -1,7 +1,7 @@
 -- What the program answers before anything is printed, and how a status comes.
 use Rattle.std.specs.Prelude.{◌≡◌, ◌⊎◌, ℕ, List, codes, Option, None, IfSome}
 use Rattle.text_base.specs.Files.{Files}
-use Rattle.tree77.specs.Tree.{SourceProgram}
+use Rattle.program77.specs.Tree.{SourceProgram}
 use Rattle.project_set.specs.Conversion.{program_report, IsConvertible}
 use Rattle.command.specs.Words.{Command}
 use Rattle.command.specs.Outputs.{with_files, outputs}

@@ -2,7 +2,7 @@
 use Rattle.std.specs.Prelude.{◌≡◌, ℕ, List, [], Option, Some, None}
 use Rattle.std.specs.FinMap.{get}
 use Rattle.text_base.specs.Files.{Files, HasFile, LacksFile}
-use Rattle.tree77.specs.Tree.{SourceProgram}
+use Rattle.program77.specs.Tree.{SourceProgram}
 use Rattle.project_set.specs.Refusals.{refusals}
 use Rattle.project_set.specs.Conversion.{IsConvertible}
 use Rattle.project_set.specs.Laws.{IsFaithful}

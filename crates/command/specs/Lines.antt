@@ -3,7 +3,7 @@ use Rattle.std.specs.Prelude.{◌≡◌, ℕ, List, ◌++◌, codes, decimal, fl
 use Rattle.text_base.specs.Causes.{cause_number, cause_text}
 use Rattle.text_base.specs.Files.{Files}
 use Rattle.text_base.specs.declared.refusal.Refusal.{Refusal}
-use Rattle.tree77.specs.Tree.{SourceProgram}
+use Rattle.program77.specs.Tree.{SourceProgram}
 use Rattle.project_set.specs.Refusals.{refusals}
 use Rattle.project_set.specs.Conversion.{program_report, IsConvertible, IsRefused}
 use Rattle.command.specs.Words.{Command}

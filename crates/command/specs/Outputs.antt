@@ -1,7 +1,7 @@
 -- Files that are written one after another.
 use Rattle.std.specs.Prelude.{◌≡◌, ◌⊎◌, ℕ, List, [], ◌∷◌, Option}
 use Rattle.text_base.specs.Files.{Files, with_file, SameBut}
-use Rattle.tree77.specs.Tree.{SourceProgram}
+use Rattle.program77.specs.Tree.{SourceProgram}
 use Rattle.project_set.specs.Conversion.{program_text, program_map, program_report}
 use Rattle.command.specs.Words.{Command, map_name, report_name}
 

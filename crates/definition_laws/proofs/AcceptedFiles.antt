@@ -14,17 +14,14 @@ use Rattle.text_base.specs.Names.{action_names}
 use Rattle.text_base.specs.Trees.{Expr, int, name, unary, binary, Action, assign, stop}
 use Rattle.text_base.specs.declared.refusal.Place.{Place}
 use Rattle.text_base.specs.declared.refusal.Refusal.{Refusal}
-use Rattle.tree77.specs.Source.{SpellsBuilt, IsSource}
-use Rattle.tree77.specs.Spelling.{Built, program, action, continue, end_of_unit}
-use Rattle.tree77.specs.Tree as tree
-use Rattle.tree77.specs.Tree.{Code, done, item, SourceUnit, SourceProgram}
-use Rattle.tree77.specs.Typing.{code_names, is_variable, is_typed}
-use Rattle.parse77.specs.SourceReading.{read_card, read_of, file_statements, Ended, ended_at, join_code, read_code, unit_with, read_unit, typed_unit, unless_refused, read_source}
-use Rattle.parse77.specs.Reading as reading
-use Rattle.parse77.specs.Reading.{Outcome, card_outcome, built_in}
-use Rattle.parse77.specs.Statement.{refusals_by, refusals_of}
-use Rattle.parse77.specs.Unit.{header_name}
-use Rattle.project_set.specs.Refusals.{program_name, is_built_operand, is_built, is_built_action, is_short, is_built_statement, is_built_as, is_built_card, not_built_at, statement_refusals, unbuilt_refusals, unit_refusals, first_of, source_refusals, refusals}
+use Rattle.program77.specs.Built.{SpellsBuilt, Built, program, action, continue, end_of_unit}
+use Rattle.program77.specs.Source.{IsSource}
+use Rattle.program77.specs.Tree as tree
+use Rattle.program77.specs.Tree.{Code, done, item, SourceUnit, SourceProgram}
+use Rattle.program77.specs.Typing.{code_names, is_variable, is_typed}
+use Rattle.program77.specs.SourceReading.{read_card, read_of, file_statements, Ended, ended_at, join_code, read_code, unit_with, header_name, read_unit, typed_unit, unless_refused, read_source}
+use Rattle.parse77.specs.Statement.{deck_refusals}
+use Rattle.project_set.specs.Refusals.{program_name, is_built_operand, is_built, is_built_action, is_short, is_built_statement, is_built_as, is_built_card, not_built_at, unbuilt_refusals, unit_refusals, first_of, source_refusals, refusals}
 use Rattle.definition_laws.specs.AcceptedFiles.{IsTerm, constant, variable, IsSumOfTerms, one_term, signed_term, more_terms, IsConverted, converted_assign, converted_stop, AreConverted, IsBuiltProgram, CardsAreSpelled, FilesAreSources}
 use Rattle.definition_laws.proofs.AcceptedFaults.{after, beside, along}
 
@@ -170,68 +167,61 @@ no_unit : (o : Option SourceUnit) → (unit_refusals 0 o ≡ []) ↔ ((u : Sourc
 no_unit None = (λ e. absurd cc, λ h. absurd (let e = h.1 in cc))
 no_unit (Some u) = (λ e. (u, refl), λ h. refl)
 
--- what is converted isn't refused
-not_refused : (unit : Option (List ℕ)) (card : Card) → is_built_card unit card ≡ true → refusals_of card ≡ []
-not_refused unit card built = go (card_outcome card) (card.label == 0) built
-  where
-    go : (o : Outcome) (b : Bool) → is_built_as unit (if b then built_in o else None) ≡ true → refusals_by card.place o ≡ []
-    go (reading.accepted x) b e = refl
-    go (reading.rejected p) true e = absurd cc
-    go (reading.rejected p) false e = absurd cc
-
-none_refused : (unit : Option (List ℕ)) (cs : List Card) → list_all (is_built_card unit) cs ≡ true → statement_refusals cs ≡ []
-none_refused unit [] e = refl
-none_refused unit (card ∷ cs) e =
-    let b = and_parts (is_built_card unit card) (list_all (is_built_card unit) cs) e in
-    ap (λ rs. rs ++ statement_refusals cs) (not_refused unit card b.0) ∙ none_refused unit cs b.1
-
--- where all statements are converted, none is refused by itself
-all_accepted : (unit : Option (List ℕ)) (cs : List Card) (X : Type 0) → ((statement_refusals cs ≡ []) × ((list_all (is_built_card unit) cs ≡ true) × X)) ↔ ((list_all (is_built_card unit) cs ≡ true) × X)
-all_accepted unit cs X = (λ h. h.1, λ h. (none_refused unit cs h.0, h))
-
 phases : (bytes : List ℕ) → (refusals bytes ≡ [])
-    ↔ ((card_refusals 0 bytes ≡ []) × ((list_all (is_built_card (program_name (file_statements 0 bytes))) (cards 0 bytes) ≡ true) × ((u : SourceUnit) × (read_unit (file_statements 0 bytes) ≡ Some u))))
+    ↔ ((card_refusals 0 bytes ≡ []) × ((deck_refusals (cards 0 bytes) ≡ []) × ((list_all (is_built_card (program_name (file_statements 0 bytes))) (cards 0 bytes) ≡ true) × ((u : SourceUnit) × (read_unit (file_statements 0 bytes) ≡ Some u)))))
 phases bytes =
     let unit = program_name (file_statements 0 bytes) in
-    let same : statement_refusals (cards 0 bytes) ≡ [] → statement_refusals (cards 0 bytes) ≡ [] = λ e. e in
+    let same : deck_refusals (cards 0 bytes) ≡ [] → deck_refusals (cards 0 bytes) ≡ [] = λ e. e in
     after (no_first (files_refusals 0 0 (bytes ∷ [])) _) (beside (along (one_file bytes))
-    (after (no_first (statement_refusals (cards 0 bytes)) _)
-    (after (beside (same, same) (after (no_first (unbuilt_refusals (cards 0 bytes)) _) (beside (no_statement (is_built_card unit) (cards 0 bytes)) (no_unit _)))) (all_accepted unit (cards 0 bytes) _))))
+    (after (no_first (deck_refusals (cards 0 bytes)) _)
+    (beside (same, same) (after (no_first (unbuilt_refusals (cards 0 bytes)) _) (beside (no_statement (is_built_card unit) (cards 0 bytes)) (no_unit _))))))
 
 -- ---- programs
 
 abbrev program_of : SourceUnit → SourceProgram
 program_of u = record { units = u ∷ [] }
 
-source_read : (bytes : List ℕ) (u : SourceUnit) → card_refusals 0 bytes ≡ [] → read_unit (file_statements 0 bytes) ≡ Some u → is_typed u ≡ true → read_source 0 bytes ≡ Some (program_of u)
-source_read bytes u accepted is typed =
-    (λ i. unless_refused (accepted i) (option_map program_of (option_and_then typed_unit (is i)))) ∙ ap (λ b. option_map program_of (if b then Some u else None)) typed
+abbrev read_by : List ℕ → Option SourceProgram
+read_by bytes = option_map program_of (option_and_then typed_unit (read_unit (file_statements 0 bytes)))
+
+source_read : (bytes : List ℕ) (u : SourceUnit) → card_refusals 0 bytes ≡ [] → deck_refusals (cards 0 bytes) ≡ [] → read_unit (file_statements 0 bytes) ≡ Some u → is_typed u ≡ true → read_source 0 bytes ≡ Some (program_of u)
+source_read bytes u accepted deck is typed =
+    (λ i. unless_refused (accepted i) (unless_refused (deck i) (option_map program_of (option_and_then typed_unit (is i))))) ∙ ap (λ b. option_map program_of (if b then Some u else None)) typed
 
 -- the unit of a program that is read
-abbrev Unit77 : List ℕ → SourceProgram → Type 0
-Unit77 bytes p = (u : SourceUnit) × (read_unit (file_statements 0 bytes) ≡ Some u) × (is_typed u ≡ true) × (p ≡ program_of u)
+pub record IsRead (bytes : List ℕ) (p : SourceProgram) : Type 0 where
+  pub unit : SourceUnit
+  pub deck : deck_refusals (cards 0 bytes) ≡ []
+  pub read : read_unit (file_statements 0 bytes) ≡ Some unit
+  pub typed : is_typed unit ≡ true
+  pub whole : p ≡ program_of unit
 
-source_unit : (bytes : List ℕ) (p : SourceProgram) → IsSource 0 bytes p → read_source 0 bytes ≡ Some p → Unit77 bytes p
+source_unit : (bytes : List ℕ) (p : SourceProgram) → IsSource 0 bytes p → read_source 0 bytes ≡ Some p → IsRead bytes p
 source_unit bytes p source e =
-    go (read_unit (file_statements 0 bytes)) refl (sym (ap (λ rs. unless_refused rs (option_map program_of (option_and_then typed_unit (read_unit (file_statements 0 bytes))))) source.accepted) ∙ e)
+    accepted (deck_refusals (cards 0 bytes)) refl (sym (ap (λ rs. unless_refused rs (unless_refused (deck_refusals (cards 0 bytes)) (read_by bytes))) source.accepted) ∙ e)
   where
-    typed_as : (u : SourceUnit) (b : Bool) → read_unit (file_statements 0 bytes) ≡ Some u → is_typed u ≡ b → option_map program_of (if b then Some u else None) ≡ Some p → Unit77 bytes p
-    typed_as u true is typed e = (u, is, typed, cc)
-    typed_as u false is typed e = absurd cc
+    typed_as : (u : SourceUnit) (b : Bool) → deck_refusals (cards 0 bytes) ≡ [] → read_unit (file_statements 0 bytes) ≡ Some u → is_typed u ≡ b → option_map program_of (if b then Some u else None) ≡ Some p → IsRead bytes p
+    typed_as u true deck is typed e = record { unit = u; deck = deck; read = is; typed = typed; whole = cc }
+    typed_as u false deck is typed e = absurd cc
 
-    go : (o : Option SourceUnit) → read_unit (file_statements 0 bytes) ≡ o → option_map program_of (option_and_then typed_unit o) ≡ Some p → Unit77 bytes p
-    go None is e = absurd cc
-    go (Some u) is e = typed_as u (is_typed u) is refl e
+    go : deck_refusals (cards 0 bytes) ≡ [] → (o : Option SourceUnit) → read_unit (file_statements 0 bytes) ≡ o → option_map program_of (option_and_then typed_unit o) ≡ Some p → IsRead bytes p
+    go deck None is e = absurd cc
+    go deck (Some u) is e = typed_as u (is_typed u) deck is refl e
+
+    accepted : (rs : List Refusal) → deck_refusals (cards 0 bytes) ≡ rs → unless_refused rs (read_by bytes) ≡ Some p → IsRead bytes p
+    accepted [] deck e = go deck (read_unit (file_statements 0 bytes)) refl e
+    accepted (r ∷ rs) deck e = absurd cc
 
 pub files_are_sources : ((file : ℕ) (bytes : List ℕ) (p : SourceProgram) → read_source file bytes ≡ Some p → IsSource file bytes p)
     → ((file : ℕ) (bytes : List ℕ) (p : SourceProgram) → IsSource file bytes p → read_source file bytes ≡ Some p) → FilesAreSources
 files_are_sources found only bytes = (
   λ e. let p = (phases bytes).0 e in
-      let u = p.1.1.0 in
-      let built = (built_code u.name u.code).0 (sym (unit_reads (cards 0 bytes) u p.1.1.1) ∙ p.1.0) in
-      (program_of u, found 0 bytes (program_of u) (source_read bytes u p.0 p.1.1.1 built.0), All-cons (λ unit. AreConverted unit.code) u [] built.1 (All-nil (λ unit. AreConverted unit.code))),
+      let u = p.1.1.1.0 in
+      let is : read_unit (file_statements 0 bytes) ≡ Some u = p.1.1.1.1 in
+      let built = (built_code u.name u.code).0 (sym (unit_reads (cards 0 bytes) u is) ∙ p.1.1.0) in
+      (program_of u, found 0 bytes (program_of u) (source_read bytes u p.0 p.1.0 is built.0), All-cons (λ unit. AreConverted unit.code) u [] built.1 (All-nil (λ unit. AreConverted unit.code))),
   λ h. let v = source_unit bytes h.0 h.1 (only 0 bytes h.0 h.1) in
-      let u = v.0 in
-      let built = (built_code u.name u.code).1 (v.2, subst IsBuiltProgram v.3 h.2 0 u (omega arith)) in
-      (phases bytes).1 (h.1.accepted, (unit_reads (cards 0 bytes) u v.1 ∙ built, (u, v.1))),
+      let u = v.unit in
+      let built = (built_code u.name u.code).1 (v.typed, subst IsBuiltProgram v.whole h.2 0 u (omega arith)) in
+      (phases bytes).1 (h.1.accepted, (v.deck, (unit_reads (cards 0 bytes) u v.read ∙ built, (u, v.read)))),
 )

@@ -6,11 +6,11 @@ use Rattle.text_base.specs.Runs.{Final, going, ended, fault, Out, gives, over, b
 use Rattle.text_base.specs.Evaluation.{Storage, Call}
 use Rattle.text_base.specs.Evaluation as e
 use Rattle.text_base.specs.declared.refusal.Place.{Place}
-use Rattle.tree77.specs.Tree as source
-use Rattle.tree77.specs.Tree.{SourceUnit}
-use Rattle.tree77.specs.Layout.{Layout}
-use Rattle.tree77.specs.Meaning.{Store, Line, line, Op, act, pass, lines, Open, from, proceed, tagged, start77, run_main}
-use Rattle.tree77.specs.Meaning as flat
+use Rattle.program77.specs.Tree as source
+use Rattle.program77.specs.Tree.{SourceUnit}
+use Rattle.program77.specs.Layout.{Layout}
+use Rattle.program77.specs.Meaning.{Store, Line, line, Op, act, pass, lines, Open, from, proceed, tagged, start77, run_main}
+use Rattle.program77.specs.Meaning as flat
 use Rattle.tree90.specs.Tree as free
 use Rattle.tree90.specs.Tree.{FreeUnit}
 use Rattle.tree90.specs.Meaning.{Objects, untagged, nowhere, next, body, unit_end}

@@ -7,7 +7,7 @@ use Rattle.std.proofs.lemmas.List.Elements.{All-nil, All-cons, All-weaker}
 use Rattle.std.proofs.lemmas.List.Kept.{AllPairs-cons}
 use Rattle.text_base.specs.Lines.{lines, is_blank, is_marked, is_comment, is_initial}
 use Rattle.text_base.specs.Cards.{Comment, comment_of, goes_on, whole_before, comments_of, comments}
-use Rattle.tree77.specs.Tree.{SourceProgram}
+use Rattle.program77.specs.Tree.{SourceProgram}
 use Rattle.project_set.specs.Rewrite.{remark_of}
 use Rattle.project_set.specs.Positions.{Placed, position_of, source_positions}
 use Rattle.definition_laws.specs.CommentPlaces.{entries_before}

@@ -8,7 +8,7 @@ use Rattle.std.proofs.lemmas.Bool.{and_parts, and_from, or_parts, not-false}
 use Rattle.text_base.specs.Lines.{cut, without_return, lines, is_blank, is_marked, is_comment, is_initial}
 use Rattle.text_base.specs.Cards.{Comment, comment_of, whole_before, comments_of, comments}
 use Rattle.text_base.specs.Remarks.{Remark, is_writable_remark}
-use Rattle.tree77.specs.Tree.{SourceProgram}
+use Rattle.program77.specs.Tree.{SourceProgram}
 use Rattle.tree90.specs.Tree as free
 use Rattle.tree90.specs.Tree.{FreeUnit, FreeProgram}
 use Rattle.project_set.specs.Rewrite.{remark_of}

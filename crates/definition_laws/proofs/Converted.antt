@@ -9,11 +9,11 @@ use Rattle.text_base.specs.Operations.{Computed, computes, faults, is_integer, i
 use Rattle.text_base.specs.Runs.{Final, fault, Out, gives, over, bind, close, How, normal}
 use Rattle.text_base.specs.Evaluation.{Storage, Call, action}
 use Rattle.text_base.specs.declared.refusal.Place.{Place}
-use Rattle.tree77.specs.Tree as source
-use Rattle.tree77.specs.Tree.{SourceUnit, SourceProgram}
-use Rattle.tree77.specs.Layout.{Layout}
-use Rattle.tree77.specs.Meaning.{Store, Open, lines, from, proceed, tagged, start77, run_main}
-use Rattle.tree77.specs.Meaning as flat
+use Rattle.program77.specs.Tree as source
+use Rattle.program77.specs.Tree.{SourceUnit, SourceProgram}
+use Rattle.program77.specs.Layout.{Layout}
+use Rattle.program77.specs.Meaning.{Store, Open, lines, from, proceed, tagged, start77, run_main}
+use Rattle.program77.specs.Meaning as flat
 use Rattle.tree90.specs.Tree as free
 use Rattle.tree90.specs.Tree.{FreeUnit}
 use Rattle.tree90.specs.Proper.{IsOperand, operand_int, operand_name, is_sign, is_additive, IsSum, only_operand, signed_operand, sum_of, IsWritableAction, writable_assign, writable_stop, IsWritableCode, IsProper}

@@ -5,8 +5,8 @@ use Rattle.std.proofs.lemmas.List.{append-nil, append_assoc, take_at, take-take,
 use Rattle.std.proofs.lemmas.List.Sums.{sum_by-cons, sum_by-append, sum_by-take-le}
 use Rattle.std.proofs.lemmas.Grind.{flat_map-append}
 use Rattle.std.proofs.lemmas.Bool.{ltb-true, ltb-false}
-use Rattle.tree77.specs.Tree as source
-use Rattle.tree77.specs.Tree.{SourceUnit}
+use Rattle.program77.specs.Tree as source
+use Rattle.program77.specs.Tree.{SourceUnit}
 use Rattle.project_set.specs.Rewrite.{count_of, size_of}
 use Rattle.project_set.specs.Positions.{entries_in, position_in, position_of}
 use Rattle.definition_laws.specs.CommentPlaces.{code_marks, unit_marks, how_many, entries_among, entries_before}

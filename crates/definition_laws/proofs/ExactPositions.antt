@@ -3,7 +3,7 @@ use Rattle.std.proofs.Common.{◌≡◌, ℕ, zero, suc, ◌+◌, ◌-◌, ◌<�
 use Rattle.std.specs.Prelude.{nat_lt, if◌then◌else◌, flat_map}
 use Rattle.std.proofs.lemmas.List.{length-map, get_or-append-add}
 use Rattle.std.proofs.lemmas.Bool.{ltb-true, ltb-false}
-use Rattle.tree77.specs.Tree.{SourceUnit}
+use Rattle.program77.specs.Tree.{SourceUnit}
 use Rattle.project_set.specs.Rewrite.{count_of, size_of}
 use Rattle.project_set.specs.Positions.{Position, before_header, after_header, before_entry, at_end, entries_in, position_in, position_of}
 use Rattle.definition_laws.specs.CommentPlaces.{code_marks, entries_among, entries_before, unit_headers, follows_header}

@@ -12,11 +12,11 @@ use Rattle.text_base.specs.Runs.{Final, going, ended, fault, Out, gives, over, b
 use Rattle.text_base.specs.Evaluation.{Storage, Call}
 use Rattle.text_base.specs.Evaluation as e
 use Rattle.text_base.specs.declared.refusal.Place.{Place}
-use Rattle.tree77.specs.Tree.{simple, continue, Code, done, item, SourceUnit, SourceProgram}
-use Rattle.tree77.specs.Typing.{code_names}
-use Rattle.tree77.specs.Layout.{Layout, Entity, layout_of, entity_named}
-use Rattle.tree77.specs.Meaning.{Store, Line, lines, Open, from, proceed, tagged, read_at, write_at, start77, run_main, run77}
-use Rattle.tree77.specs.Meaning as flat
+use Rattle.program77.specs.Tree.{simple, continue, Code, done, item, SourceUnit, SourceProgram}
+use Rattle.program77.specs.Typing.{code_names}
+use Rattle.program77.specs.Layout.{Layout, Entity, layout_of, entity_named}
+use Rattle.program77.specs.Meaning.{Store, Line, lines, Open, from, proceed, tagged, read_at, write_at, start77, run_main, run77}
+use Rattle.program77.specs.Meaning as flat
 use Rattle.definition_laws.specs.Storage.{IsVariableOf, place_of}
 use Rattle.definition_laws.specs.Statements.{actions_of}
 use Rattle.definition_laws.specs.Faults.{FaultsBy, ReadsUndefined, Overflows, IsPlain, IsStoreOf}

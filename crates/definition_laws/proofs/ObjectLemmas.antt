@@ -9,8 +9,8 @@ use Rattle.text_base.specs.Names.{action_names}
 use Rattle.text_base.specs.Trees.{Action}
 use Rattle.text_base.specs.Values.{Value, integer}
 use Rattle.text_base.specs.declared.refusal.Place.{Place}
-use Rattle.tree77.specs.Tree.{simple, continue, Code, done, item}
-use Rattle.tree77.specs.Typing.{code_names}
+use Rattle.program77.specs.Tree.{simple, continue, Code, done, item}
+use Rattle.program77.specs.Typing.{code_names}
 use Rattle.tree90.specs.Meaning.{Cells, Objects, is_object, cells_of, with_cells, integer_at, scalar, untagged}
 use Rattle.definition_laws.specs.Statements.{actions_of}
 

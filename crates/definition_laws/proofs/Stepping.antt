@@ -5,11 +5,11 @@ use Rattle.text_base.specs.Trees.{assign, stop}
 use Rattle.text_base.specs.Values.{Value}
 use Rattle.text_base.specs.Runs.{Final, going, ended, fault, Out, gives, over, bind, close, How, normal}
 use Rattle.text_base.specs.Evaluation.{Storage, Call, action}
-use Rattle.tree77.specs.Tree as source
-use Rattle.tree77.specs.Tree.{SourceUnit}
-use Rattle.tree77.specs.Layout.{Layout}
-use Rattle.tree77.specs.Meaning.{Store, Open, lines, from, proceed, tagged, start77, run_main}
-use Rattle.tree77.specs.Meaning as flat
+use Rattle.program77.specs.Tree as source
+use Rattle.program77.specs.Tree.{SourceUnit}
+use Rattle.program77.specs.Layout.{Layout}
+use Rattle.program77.specs.Meaning.{Store, Open, lines, from, proceed, tagged, start77, run_main}
+use Rattle.program77.specs.Meaning as flat
 use Rattle.tree90.specs.Tree as free
 use Rattle.tree90.specs.Tree.{FreeUnit}
 use Rattle.tree90.specs.Meaning.{Objects, untagged, nowhere, next, body, unit_end}

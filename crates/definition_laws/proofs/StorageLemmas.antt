@@ -11,10 +11,10 @@ use Rattle.std.proofs.lemmas.Option.{slice_get_within, get_or_from_slice_get, sa
 use Rattle.std.proofs.lemmas.Bool.{cases_order, cases_lt, and_parts, and_from, eqb-true, eq-eqb}
 use Rattle.std.proofs.lemmas.Slice.Eq.{bytes_eq-Decides}
 use Rattle.text_base.specs.Values.{Value, integer, Held, undefined, held, integer_in}
-use Rattle.tree77.specs.Tree.{SourceUnit, SourceProgram}
-use Rattle.tree77.specs.Typing.{code_names, variables}
-use Rattle.tree77.specs.Layout.{Layout, Entity, variables_from, sequence_of, entity_of, layout_of, numeric_count, entity_named}
-use Rattle.tree77.specs.Meaning.{Store, tagged, start77, read_at, write_at}
+use Rattle.program77.specs.Tree.{SourceUnit, SourceProgram}
+use Rattle.program77.specs.Typing.{code_names, variables}
+use Rattle.program77.specs.Layout.{Layout, Entity, variables_from, sequence_of, entity_of, layout_of, numeric_count, entity_named}
+use Rattle.program77.specs.Meaning.{Store, tagged, start77, read_at, write_at}
 use Rattle.project_set.specs.MapText.{map_line_of, map_lines}
 use Rattle.definition_laws.specs.Storage.{first_place, IsVariableOf, OneEntity, place_of, line_pair, pairs_of}
 use Rattle.definition_laws.proofs.NameOrder.{in_order}

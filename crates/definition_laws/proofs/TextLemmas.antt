@@ -11,9 +11,9 @@ use Rattle.std.proofs.lemmas.Bool.{and_parts, and_from, or_left}
 use Rattle.text_base.specs.Chars.{is_digit, is_name_byte, is_name}
 use Rattle.text_base.specs.Lines.{cut, with_first, without_return, lines, is_cut, cut_lines}
 use Rattle.text_base.proofs.CharTests.{all_append}
-use Rattle.tree77.specs.Tree.{SourceUnit}
-use Rattle.tree77.specs.Typing.{variables}
-use Rattle.tree77.specs.Layout.{Kind, integers, logicals, characters}
+use Rattle.program77.specs.Tree.{SourceUnit}
+use Rattle.program77.specs.Typing.{variables}
+use Rattle.program77.specs.Layout.{Kind, integers, logicals, characters}
 use Rattle.project_set.specs.MapText.{MapLine, kind_text, map_line_text, map_text, map_line_of, map_lines}
 use Rattle.project_set.specs.Report.{Counts, report_text}
 use Rattle.definition_laws.specs.Texts.{are_named, IsWellNamed, AreSmall}

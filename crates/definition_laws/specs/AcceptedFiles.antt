@@ -4,9 +4,10 @@ use Rattle.std.specs.List.{All}
 use Rattle.text_base.specs.Cards.{Card}
 use Rattle.text_base.specs.Trees.{UnaryOp, BinaryOp, Expr, int, name, unary, binary, Action, assign, stop}
 use Rattle.text_base.specs.declared.limits.TheConstants.{LONGEST_WRITTEN}
-use Rattle.tree77.specs.Source.{SpellsBuilt, IsSource}
-use Rattle.tree77.specs.Spelling.{Built}
-use Rattle.tree77.specs.Tree.{simple, continue, Code, done, item, SourceProgram}
+use Rattle.program77.specs.Built.{SpellsBuilt}
+use Rattle.program77.specs.Source.{IsSource}
+use Rattle.program77.specs.Built.{Built}
+use Rattle.program77.specs.Tree.{simple, continue, Code, done, item, SourceProgram}
 use Rattle.tree90.specs.Printed.{stmt_text}
 use Rattle.tree90.specs.Proper.{is_sign, is_additive}
 use Rattle.tree90.specs.Tree as free

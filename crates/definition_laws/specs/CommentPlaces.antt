@@ -4,8 +4,8 @@ use Rattle.std.specs.List.{AllPairs}
 use Rattle.text_base.specs.Lines.{is_blank, is_mark, is_marked}
 use Rattle.text_base.specs.Cards.{Comment, comment_of, comments}
 use Rattle.text_base.specs.Remarks.{Remark, is_writable_remark}
-use Rattle.tree77.specs.Tree as source
-use Rattle.tree77.specs.Tree.{SourceUnit, SourceProgram}
+use Rattle.program77.specs.Tree as source
+use Rattle.program77.specs.Tree.{SourceUnit, SourceProgram}
 use Rattle.tree90.specs.Tree as free
 use Rattle.tree90.specs.Tree.{FreeUnit, FreeProgram}
 use Rattle.project_set.specs.Conversion.{IsConvertible}

@@ -10,9 +10,9 @@ use Rattle.text_base.specs.Runs.{Final, going, ended, fault, gives, over}
 use Rattle.text_base.specs.Evaluation.{Storage, Call, eval}
 use Rattle.text_base.specs.declared.refusal.Place.{Place}
 use Rattle.text_base.specs.declared.stop_code.StopCode.{StopCode}
-use Rattle.tree77.specs.Tree.{SourceUnit, SourceProgram}
-use Rattle.tree77.specs.Layout.{Entity, layout_of, entity_named}
-use Rattle.tree77.specs.Meaning.{Store, tagged, start77, run77}
+use Rattle.program77.specs.Tree.{SourceUnit, SourceProgram}
+use Rattle.program77.specs.Layout.{Entity, layout_of, entity_named}
+use Rattle.program77.specs.Meaning.{Store, tagged, start77, run77}
 use Rattle.tree90.specs.Meaning.{Objects}
 use Rattle.project_set.specs.Conversion.{IsConvertible}
 use Rattle.project_set.specs.Rewrite.{written}

@@ -6,9 +6,9 @@ use Rattle.text_base.specs.Runs.{Final, going, ended, fault, close}
 use Rattle.text_base.specs.Evaluation.{Storage, Call, action}
 use Rattle.text_base.specs.declared.refusal.Place.{Place}
 use Rattle.text_base.specs.declared.stop_code.StopCode.{StopCode}
-use Rattle.tree77.specs.Tree.{SourceUnit, SourceProgram}
-use Rattle.tree77.specs.Layout.{layout_of}
-use Rattle.tree77.specs.Meaning.{Store, tagged, no_function, start77, run77}
+use Rattle.program77.specs.Tree.{SourceUnit, SourceProgram}
+use Rattle.program77.specs.Layout.{layout_of}
+use Rattle.program77.specs.Meaning.{Store, tagged, no_function, start77, run77}
 use Rattle.tree90.specs.Tree.{Code, done, item, FreeUnit, FreeProgram}
 use Rattle.tree90.specs.Meaning.{Objects, untagged, nowhere, declared_in, IsStart, run90}
 use Rattle.tree90.specs.Meaning as free

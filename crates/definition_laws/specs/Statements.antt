@@ -2,7 +2,7 @@
 use Rattle.std.specs.Prelude.{List, [], ◌∷◌}
 use Rattle.text_base.specs.Trees.{Action}
 use Rattle.text_base.specs.declared.refusal.Place.{Place}
-use Rattle.tree77.specs.Tree as source
+use Rattle.program77.specs.Tree as source
 use Rattle.tree90.specs.Tree.{simple, Code, done, item}
 use Rattle.tree90.specs.Meaning.{nowhere}
 

@@ -5,10 +5,10 @@ use Rattle.text_base.specs.Names.{action_names}
 use Rattle.text_base.specs.Trees.{Action}
 use Rattle.text_base.specs.declared.refusal.Place.{Place}
 use Rattle.text_base.specs.Values.{Value, undefined}
-use Rattle.tree77.specs.Tree.{SourceUnit, SourceProgram}
-use Rattle.tree77.specs.Typing.{code_names, variables}
-use Rattle.tree77.specs.Layout.{Layout, Entity, layout_of, numeric_place, entity_named}
-use Rattle.tree77.specs.Meaning.{Store, tagged, start77}
+use Rattle.program77.specs.Tree.{SourceUnit, SourceProgram}
+use Rattle.program77.specs.Typing.{code_names, variables}
+use Rattle.program77.specs.Layout.{Layout, Entity, layout_of, numeric_place, entity_named}
+use Rattle.program77.specs.Meaning.{Store, tagged, start77}
 use Rattle.tree90.specs.Meaning.{Cells, Objects, cells_of, untagged}
 use Rattle.definition_laws.specs.Statements.{actions_of}
 use Rattle.project_set.specs.MapText.{MapLine, map_lines}

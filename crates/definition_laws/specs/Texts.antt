@@ -2,7 +2,7 @@
 use Rattle.std.specs.Prelude.{◌≡◌, ℕ, ◌<◌, ◌^◌, Bool, ◌||◌, ◌==◌, IsTrue, All, List}
 use Rattle.std.specs.List.{list_all}
 use Rattle.text_base.specs.Chars.{is_name_byte}
-use Rattle.tree77.specs.Tree.{SourceProgram}
+use Rattle.program77.specs.Tree.{SourceProgram}
 use Rattle.project_set.specs.Conversion.{IsConvertible}
 use Rattle.project_set.specs.MapText.{MapLine, map_lines, map_text}
 use Rattle.project_set.specs.Report.{Counts, counts_of, report_text}

@@ -1,5 +1,5 @@
 // What holds of the values of expressions and of faults.
-ghost use Rattle.tree77.specs.Meaning.{Store};
+ghost use Rattle.program77.specs.Meaning.{Store};
 ghost use Rattle.tree90.specs.Meaning.{Objects};
 ghost use Rattle.definition_laws.specs.Faults.{ValuesAreExact, ExactIsGiven, UndefinedHasCause, OverflowHasCause, FaultsAreHere, LeftIsFirst};
 ghost use Rattle.definition_laws.specs.Faults.{UndefinedIsRead, OverflowIsReached, StoresOfRuns, StoresAtEnd, SourceFaultsInTwoWays, WrittenFaultsInOneWay};

@@ -3,7 +3,7 @@ use crate::expressions::{write_refusal, write_tree};
 use crate::table::rows_of;
 use crate::tables::forms::FORMS;
 use card_reader::read_cards;
-use parse77::{ReadStatement, StatementOutcome, read_statements};
+use parse77::read_statements;
 use std::alloc::{AllocError, Global};
 use std::test::Fail;
 use text_base::{Bytes, FormatEdit, FormatItem, Name, StopCode};
@@ -12,6 +12,7 @@ use tree77::{
     Equation77, Expr, Exprs, FileControl77, FormatRef77, Header77, Implicit77, Length77, Letters77,
     Listed77, Range77, ReadBy77, Saved77, Statement77, Stmt77, Times77, Type77, UnitRef77,
 };
+use unit77::ReadStatement;
 
 type Written = Result<(), AllocError>;
 
@@ -122,7 +123,8 @@ fn write_declarators(alloc: Global, declared: &[Declarator77], out: &mut Bytes) 
 
 // Headers.
 
-fn write_called(name: &Name, dummies: &[Name], out: &mut Bytes) -> Written {
+/// Writes a name, and its dummies in brackets.
+pub fn write_called(name: &Name, dummies: &[Name], out: &mut Bytes) -> Written {
     out.extend(name.as_slice())?;
     out.push(b'[')?;
     write_names(dummies, out)?;
@@ -139,7 +141,8 @@ fn write_typed(alloc: Global, of: &Option<Type77>, out: &mut Bytes) -> Written {
     }
 }
 
-fn write_header(alloc: Global, header: &Header77, out: &mut Bytes) -> Written {
+/// Writes a header.
+pub fn write_header(alloc: Global, header: &Header77, out: &mut Bytes) -> Written {
     match header {
         Header77::Program(name) => {
             out.extend(b"program ")?;
@@ -284,7 +287,8 @@ fn declared_word(declared: &Declared77) -> &'static str {
     }
 }
 
-fn write_declared(alloc: Global, declared: &Declared77, out: &mut Bytes) -> Written {
+/// Writes a declaration.
+pub fn write_declared(alloc: Global, declared: &Declared77, out: &mut Bytes) -> Written {
     out.extend(declared_word(declared).as_bytes())?;
     match declared {
         Declared77::Implicit(implicits) => write_implicits(alloc, implicits.as_slice(), out),
@@ -358,19 +362,38 @@ fn write_format(alloc: Global, items: &[FormatItem], out: &mut Bytes) -> Written
 
 // Lists and transfers.
 
-fn write_range(alloc: Global, range: &Range77, out: &mut Bytes) -> Written {
-    out.extend(range.variable.as_slice())?;
+/// Writes a variable of a DO or an implied DO list, its first value, its last one, and the increment, if it is written.
+pub fn write_progression(
+    alloc: Global,
+    variable: &Name,
+    from: &Expr,
+    to: &Expr,
+    by: &Option<Expr>,
+    out: &mut Bytes,
+) -> Written {
+    out.extend(variable.as_slice())?;
     out.push(b'=')?;
-    write_tree(alloc, &range.from, out)?;
+    write_tree(alloc, from, out)?;
     out.push(b',')?;
-    write_tree(alloc, &range.to, out)?;
-    match &range.by {
+    write_tree(alloc, to, out)?;
+    match by {
         Some(by) => {
             out.push(b',')?;
             write_tree(alloc, by, out)
         }
         None => Ok(()),
     }
+}
+
+fn write_range(alloc: Global, range: &Range77, out: &mut Bytes) -> Written {
+    write_progression(
+        alloc,
+        &range.variable,
+        &range.from,
+        &range.to,
+        &range.by,
+        out,
+    )
 }
 
 #[cycle(list)]
@@ -512,7 +535,8 @@ fn write_stop(code: &Option<StopCode>, out: &mut Bytes) -> Written {
     }
 }
 
-fn write_simple(alloc: Global, statement: &Stmt77, out: &mut Bytes) -> Written {
+/// Writes a simple statement.
+pub fn write_simple(alloc: Global, statement: &Stmt77, out: &mut Bytes) -> Written {
     match statement {
         Stmt77::Assign(variable, value) => {
             write_tree(alloc, variable, out)?;
@@ -577,7 +601,8 @@ fn write_transfer(alloc: Global, statement: &Stmt77, out: &mut Bytes) -> Written
     }
 }
 
-fn write_condition(alloc: Global, condition: &Expr, out: &mut Bytes) -> Written {
+/// Writes a condition, as it stands behind IF.
+pub fn write_condition(alloc: Global, condition: &Expr, out: &mut Bytes) -> Written {
     out.extend(b"if(")?;
     write_tree(alloc, condition, out)?;
     out.extend(b") ")
@@ -621,20 +646,21 @@ pub fn write_statement(alloc: Global, statement: &Statement77, out: &mut Bytes) 
 }
 
 /// Writes what a statement is read as: its tree, or number and name of its refusal.
-pub fn write_outcome(alloc: Global, outcome: &StatementOutcome, out: &mut Bytes) -> Written {
-    match outcome {
-        StatementOutcome::Accepted(statement) => write_statement(alloc, statement, out),
-        StatementOutcome::Refused(refusal) => write_refusal(alloc, refusal, out),
+pub fn write_as_read(alloc: Global, read: &ReadStatement, out: &mut Bytes) -> Written {
+    match (&read.refusal, &read.statement) {
+        (Some(refusal), _) => write_refusal(alloc, refusal.get(), out),
+        (None, Some(statement)) => write_statement(alloc, statement, out),
+        (None, None) => out.extend(b"neither read nor refused"),
     }
 }
 
-// Writes the outcomes of statements with strokes between them.
-fn write_outcomes(alloc: Global, statements: &[ReadStatement], out: &mut Bytes) -> Written {
+/// Writes what statements are read as, with strokes between them.
+pub fn write_all_as_read(alloc: Global, statements: &[ReadStatement], out: &mut Bytes) -> Written {
     for (index, read) in statements.iter().enumerate() {
         if index > 0 {
             out.push(b'|')?;
         }
-        write_outcome(alloc, &read.outcome, out)?;
+        write_as_read(alloc, read, out)?;
     }
     Ok(())
 }
@@ -644,14 +670,14 @@ fn told(alloc: Global, file: &[u8]) -> Result<Bytes, Fail> {
     let mut said = Bytes::new(alloc);
     let deck = read_cards(alloc, 3, file)?;
     let statements = read_statements(alloc, &deck)?;
-    write_outcomes(alloc, statements.as_slice(), &mut said)?;
+    write_all_as_read(alloc, statements.as_slice(), &mut said)?;
     Ok(said)
 }
 
 #[test]
 fn statements_have_forms(rt: HostRuntime) -> Result<(), Fail> {
     let alloc = rt.alloc();
-    for row in rows_of(alloc, FORMS, 749, 2)?.iter() {
+    for row in rows_of(alloc, FORMS, 750, 2)?.iter() {
         row.check(&rt, 1, told(alloc, row.field(0))?.as_slice());
     }
     Ok(())

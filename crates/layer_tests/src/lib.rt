@@ -27,3 +27,7 @@ mod tables;
 mod tokens;
 #[cfg(test)]
 mod top;
+#[cfg(test)]
+mod unit_limits;
+#[cfg(test)]
+mod units;

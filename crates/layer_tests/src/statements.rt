@@ -1,13 +1,15 @@
 // The statements of a file, and the program that they are.
-use crate::forms::write_outcome;
+use crate::forms::write_as_read;
 use crate::table::rows_of;
 use crate::tables::statements::STATEMENTS;
 use card_reader::{Card, read_cards};
-use parse77::{ReadStatement, StatementOutcome, main_program, read_statements, shown};
+use parse77::{ParseError, parse_deck, read_statements, shown};
+use program77::{main_program, unit_name};
 use std::alloc::{AllocError, Global};
+use std::process::Abort;
 use std::test::Fail;
 use text_base::{Bytes, Place};
-use tree77::Unit77;
+use unit77::{ReadStatement, Unit77, Units77};
 
 fn add_place(alloc: Global, place: Place, out: &mut Bytes) -> Result<(), AllocError> {
     let Place { file, line } = place;
@@ -24,10 +26,8 @@ fn add_label(alloc: Global, label: u32, out: &mut Bytes) -> Result<(), AllocErro
 
 // That a refusal stands elsewhere than its statement.
 fn add_elsewhere(read: &ReadStatement, out: &mut Bytes) -> Result<(), AllocError> {
-    match &read.outcome {
-        StatementOutcome::Refused(refusal) if refusal.place != read.place => {
-            out.extend(b"elsewhere ")
-        }
+    match &read.refusal {
+        Some(refusal) if refusal.get().place != read.place => out.extend(b"elsewhere "),
         _ => Ok(()),
     }
 }
@@ -42,7 +42,7 @@ fn add_statement(
     add_place(alloc, read.place, out)?;
     add_elsewhere(read, out)?;
     add_label(alloc, read.label, out)?;
-    write_outcome(alloc, &read.outcome, out)?;
+    write_as_read(alloc, read, out)?;
     out.push(b' ')?;
     out.extend(shown(alloc, card)?.as_slice())?;
     out.push(b'|')
@@ -71,31 +71,40 @@ fn statements_told(alloc: Global, file: &[u8]) -> Result<Bytes, Fail> {
 }
 
 // The place of the END of a unit, its name and how many items it has.
-fn unit_told(alloc: Global, unit: &Unit77) -> Result<Bytes, AllocError> {
-    let mut said = Bytes::new(alloc);
-    add_place(alloc, unit.end, &mut said)?;
-    said.extend(unit.name.as_slice())?;
+fn add_unit(alloc: Global, unit: &Unit77, out: &mut Bytes) -> Result<(), AllocError> {
+    add_place(alloc, unit.end.place, out)?;
+    out.extend(unit_name(unit).as_slice())?;
     let count = unit.items.len();
-    said.extend(format!(in alloc; " {count}")?.as_bytes())?;
-    Ok(said)
+    out.extend(format!(in alloc; " {count}")?.as_bytes())
+}
+
+// What is said of the main program that units are.
+fn add_main(alloc: Global, units: Units77, out: &mut Bytes) -> Result<(), AllocError> {
+    match main_program(units) {
+        Some(unit) => add_unit(alloc, &unit, out),
+        None => out.extend(b"none"),
+    }
 }
 
 // What is said of the program that a file is.
-fn program_told(alloc: Global, file: &[u8]) -> Result<Bytes, Fail> {
+fn program_told(rt: &impl Abort, alloc: Global, file: &[u8]) -> Result<Bytes, Fail> {
+    let mut said = Bytes::new(alloc);
     let deck = read_cards(alloc, 7, file)?;
-    let statements = read_statements(alloc, &deck)?;
-    match main_program(alloc, statements)? {
-        Some(unit) => Ok(unit_told(alloc, &unit)?),
-        None => Ok(Bytes::from_slice(alloc, b"none")?),
+    assert!(rt; deck.statements().len() < 4294967295);
+    match parse_deck(alloc, &deck) {
+        Ok(units) => add_main(alloc, units, &mut said)?,
+        Err(ParseError::Refused(_refusals)) => said.extend(b"refused")?,
+        Err(ParseError::Memory) => said.extend(b"memory")?,
     }
+    Ok(said)
 }
 
 #[test]
 fn statements_and_programs_are_read(rt: HostRuntime) -> Result<(), Fail> {
     let alloc = rt.alloc();
-    for row in rows_of(alloc, STATEMENTS, 7, 3)?.iter() {
+    for row in rows_of(alloc, STATEMENTS, 18, 3)?.iter() {
         row.check(&rt, 1, statements_told(alloc, row.field(0))?.as_slice());
-        row.check(&rt, 2, program_told(alloc, row.field(0))?.as_slice());
+        row.check(&rt, 2, program_told(&rt, alloc, row.field(0))?.as_slice());
     }
     Ok(())
 }

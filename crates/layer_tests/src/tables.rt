@@ -8,3 +8,4 @@ pub mod kinds;
 pub mod printed;
 pub mod statements;
 pub mod tokens;
+pub mod units;

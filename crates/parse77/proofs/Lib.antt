@@ -1,5 +1,4 @@
 mod Joined
-mod ItemLists
 mod SameReading
 mod Looks
 mod Targets
@@ -9,4 +8,5 @@ mod StatementLaws
 mod StatementFound
 mod StatementRead
 mod StatementOutcomes
-mod SourceReading
+mod CardReading
+mod FileReading

@@ -15,9 +15,9 @@ use Rattle.tree77.specs.Kinds as kind
 use Rattle.tree77.specs.Kinds.{Kind, outline_of}
 use Rattle.tree77.specs.Lexemes.{Part, first_lowest}
 use Rattle.tree77.specs.Spelling.{HasKind, HasForm, sort_in, keyword_sorts, size_sorts, IsBehind, IsFormatBody, IsFormatStatement, IsTypedHeader, has_labels, has_then, if_labels, if_block}
-use Rattle.tree77.specs.Spelling.{stand_in, shown_word, IsKeywordStatement, keyword_form, keyword_typed, keyword_if, IsSpelledAs, IsPlainStatement, IsGuarded, IsWideStatement, wide_plain, wide_logical}
+use Rattle.tree77.specs.Spelling.{stand_in, unread_function, shown_word, IsKeywordStatement, keyword_form, keyword_typed, keyword_if, IsSpelledAs, IsPlainStatement, IsGuarded, IsWideStatement, wide_plain, wide_logical}
 use Rattle.tree77.specs.Statements as s
-use Rattle.tree77.specs.Statements.{Statement, Type77, Simple, header, declared, simple, guarded, if_then, end}
+use Rattle.tree77.specs.Statements.{Statement, Type77, Simple, header, declared, simple, guarded, if_then}
 use Rattle.scan77.specs.KindReading.{read_kind}
 use Rattle.scan77.specs.PieceSlice.{behind_plain, split_group, split_size}
 use Rattle.format77.specs.Reading.{format_of}
@@ -220,7 +220,7 @@ module _ (l : Laws) where
       let r = refused_found (stand_in word) (shown_word word) x lowest e in
       shape_plain (unsupported (shown_word word) ∷ [], (r.0, refl), r.1)
   as_found under (kind.refused_function type) pieces x lowest e =
-      let r = refused_found end type x lowest e in
+      let r = refused_found unread_function type x lowest e in
       shape_plain (unsupported type ∷ [], (r.0, refl), r.1)
   as_found under kind.nothing pieces x lowest e = absurd cc
 

@@ -1,7 +1,5 @@
 pub mod ControlParts
 pub mod Reading
 pub mod Sort
-pub mod SourceReading
 pub mod Statement
-pub mod Unit
 pub mod Views

@@ -13,9 +13,9 @@ use Rattle.tree77.specs.FormWords.{unsupported}
 use Rattle.tree77.specs.Kinds as kind
 use Rattle.tree77.specs.Kinds.{Kind, outline_of}
 use Rattle.tree77.specs.Lexemes.{Part, first_lowest}
-use Rattle.tree77.specs.Spelling.{Sorts, Built, built_of, sort_in, keyword_sorts, size_sorts, stand_in, shown_word}
+use Rattle.tree77.specs.Spelling.{Sorts, sort_in, keyword_sorts, size_sorts, stand_in, unread_function, shown_word}
 use Rattle.tree77.specs.Statements as s
-use Rattle.tree77.specs.Statements.{Statement, header, declared, simple, guarded, if_then, end}
+use Rattle.tree77.specs.Statements.{Statement, header, declared, simple, guarded, if_then}
 use Rattle.scan77.specs.KindReading.{read_kind}
 use Rattle.scan77.specs.PieceReading.{pieces_of}
 use Rattle.scan77.specs.PieceSlice.{behind_plain, split_group, split_size}
@@ -108,7 +108,7 @@ read_as under kind.loop pieces = read_behind (codes "DO") sort.do_sort pieces
 read_as under kind.assign pieces = whole_of sort.assignment_sort pieces
 read_as under (kind.keyword word) pieces = read_keyword under word pieces
 read_as under (kind.unsupported word) pieces = read_refused (stand_in word) (shown_word word)
-read_as under (kind.refused_function type) pieces = read_refused end type
+read_as under (kind.refused_function type) pieces = read_refused unread_function type
 read_as under kind.nothing pieces = None
 
 -- ---- logical IF
@@ -151,11 +151,3 @@ outcome_of label pieces = outcome_from pieces (read_statement label pieces)
 -- the outcome of a card
 abbrev pub card_outcome : Card → Outcome
 card_outcome card = outcome_of card.label (pieces_of card.label card.text)
-
--- the statement that is converted, if it is one and has no label
-abbrev pub built_in : Outcome → Option Built
-built_in (accepted x) = built_of x
-built_in (rejected p) = None
-
-abbrev pub built_at : ℕ → Outcome → Option Built
-built_at label outcome = if label == 0 then built_in outcome else None

@@ -1,18 +1,21 @@
-// What holds of the definitions of statements and sources.
-ghost use Rattle.std.specs.Prelude.{◌≡◌, ℕ, List, Option, Some};
+// What holds of the definitions of statements and of files.
+ghost use Rattle.std.specs.Prelude.{◌≡◌, ℕ, List, [], ◌∷◌, Option, Some};
 ghost use Rattle.text_base.specs.Cards.{Card};
 ghost use Rattle.text_base.specs.Pieces.{Piece};
+ghost use Rattle.tree77.specs.CardSpelling.{SpellsCard, IsRefusedCard};
 ghost use Rattle.tree77.specs.Lexemes.{Part, first_lowest};
-ghost use Rattle.tree77.specs.Source.{SpellsCard, IsRefusedCard, SpellsBuilt, IsSource};
-ghost use Rattle.tree77.specs.Spelling.{Built, IsWideStatement, SpellsStatement, IsRefusedStatement};
+ghost use Rattle.tree77.specs.Spelling.{IsWideStatement, SpellsStatement, IsRefusedStatement};
 ghost use Rattle.tree77.specs.Statements.{Statement};
-ghost use Rattle.tree77.specs.Tree.{SourceProgram};
+ghost use Rattle.unit77.specs.CardPrograms.{AreUnitsOf};
+ghost use Rattle.unit77.specs.Laws.{AreReadOrRefused, IsProgram};
+ghost use Rattle.unit77.specs.Programs.{ProgramUnit};
 ghost use Rattle.parse77.specs.Reading.{read_statement, accepted, rejected, outcome_of, card_outcome};
-ghost use Rattle.parse77.specs.SourceReading.{read_card, read_source};
+ghost use Rattle.parse77.specs.Statement.{deck_refusals, file_readings};
 
 use format77::bodies_are_read;
 use forms77::{forms_are_read, groups_are_split, sizes_are_split};
 use scan77::{one_kind, one_list_of_pieces};
+use unit77::{one_program, program_or_not};
 
 /// The reading of a statement as a function gives what its pieces spell, with the lowest part of them that is refused, and
 /// all that they spell.
@@ -27,8 +30,8 @@ pub fn statements_are_read()
     bodies_are_read();
 }
 
-/// The outcome of statements and of cards, and the reading of cards and of sources, as functions: they give what is spelled
-/// or why it is refused, and all that is spelled and each reason.
+/// The outcome of statements and of cards as functions: they give what is spelled or why it is refused, and all that is spelled
+/// and each reason.
 pub fn statements_are_spelled()
     ensures spelled { (label : ℕ) (pieces : List Piece) (s : Statement) → outcome_of label pieces ≡ accepted s → SpellsStatement label pieces s }
     ensures read { (label : ℕ) (pieces : List Piece) (s : Statement) → SpellsStatement label pieces s → outcome_of label pieces ≡ accepted s }
@@ -38,10 +41,6 @@ pub fn statements_are_spelled()
     ensures card_only { (card : Card) (s : Statement) → SpellsCard card s → card_outcome card ≡ accepted s }
     ensures card_refused { (card : Card) (p : Part) → card_outcome card ≡ rejected p → IsRefusedCard card p }
     ensures card_refused_only { (card : Card) (p : Part) → IsRefusedCard card p → card_outcome card ≡ rejected p }
-    ensures built_found { (card : Card) (b : Built) → read_card card ≡ Some b → SpellsBuilt card b }
-    ensures built_only { (card : Card) (b : Built) → SpellsBuilt card b → read_card card ≡ Some b }
-    ensures source_found { (file : ℕ) (bytes : List ℕ) (p : SourceProgram) → read_source file bytes ≡ Some p → IsSource file bytes p }
-    ensures source_only { (file : ℕ) (bytes : List ℕ) (p : SourceProgram) → IsSource file bytes p → read_source file bytes ≡ Some p }
 {
     one_list_of_pieces();
     statements_are_read();
@@ -56,9 +55,23 @@ pub fn one_statement()
     statements_are_spelled();
 }
 
-/// A source has at most one program.
-pub fn one_program()
-    ensures { (file : ℕ) (bytes : List ℕ) (p q : SourceProgram) → IsSource file bytes p → IsSource file bytes q → p ≡ q }
+/// Nothing is refused of the statements of a file exactly where they are the units of some program, and their readings are those
+/// of the cards.
+pub fn files_are_units()
+    ensures found { (cards : List Card) → deck_refusals cards ≡ [] → (us : List ProgramUnit) × AreUnitsOf cards us }
+    ensures only { (cards : List Card) (us : List ProgramUnit) → AreUnitsOf cards us → deck_refusals cards ≡ [] }
+    ensures as_read { (cards : List Card) (us : List ProgramUnit) → IsProgram (file_readings cards) us → AreUnitsOf cards us }
+    ensures read { (cards : List Card) (us : List ProgramUnit) → AreUnitsOf cards us → IsProgram (file_readings cards) us }
+    ensures or_refused { (cards : List Card) → AreReadOrRefused (file_readings cards) }
 {
     statements_are_spelled();
+    program_or_not();
+}
+
+/// A file is the units of at most one program.
+pub fn one_list_of_units()
+    ensures { (cards : List Card) (us vs : List ProgramUnit) → AreUnitsOf cards us → AreUnitsOf cards vs → us ≡ vs }
+{
+    files_are_units();
+    one_program();
 }

@@ -1,6 +1,6 @@
 // Reads all statements but logical IF.
 ghost use Rattle.std.specs.Prelude.{◌≡◌, IfOk};
-ghost use Rattle.tree77.specs.Spelling.{size_sorts, stand_in};
+ghost use Rattle.tree77.specs.Spelling.{size_sorts, stand_in, unread_function};
 ghost use Rattle.tree77.specs.StatementPlain.{statement_of};
 ghost use Rattle.scan77.specs.Kind.{kind_of};
 ghost use Rattle.scan77.specs.PieceSlice.{slice_of};
@@ -21,7 +21,8 @@ use format77::FormatRead;
 use scan77::{Kind, PieceSlice, Word};
 use sqlite_items::Items;
 use std::alloc::{AllocError, Global};
-use tree77::{Declared77, Statement77, Stmt77};
+use text_base::Name;
+use tree77::{Declared77, Header77, Statement77, Stmt77, Type77};
 
 /// A FORMAT statement with what its format is read as.
 fn format_read<'a>(alloc: Global, format: FormatRead) -> Read<'a>
@@ -123,16 +124,31 @@ fn keyword<'a>(alloc: Global, word: Word, pieces: PieceSlice<'a>) -> Result<Read
     }
 }
 
-/// What stands for a statement that is refused whatever stands behind its keyword.
-fn stands(word: Word) -> Statement77
+/// What stands for a statement that is refused whatever stands behind its keyword: one of its sort, with nothing in it.
+fn stands(alloc: Global, word: Word) -> Statement77
     ensures { statement_of result ≡ stand_in (word_text word) }
 {
     match word {
         Word::Pause | Word::Assign | Word::Inquire | Word::Backspace | Word::EndFile => {
             Statement77::Simple(Stmt77::Continue)
         }
+        Word::Real | Word::DoublePrecision | Word::Complex | Word::Namelist => {
+            Statement77::Declared(Declared77::Typed(Type77::Integer, Items::new(alloc)))
+        }
+        Word::Entry | Word::Include => {
+            Statement77::Declared(Declared77::Data(Items::new(alloc)))
+        }
+        Word::ImplicitNone => Statement77::Declared(Declared77::Implicit(Items::new(alloc))),
         _ => Statement77::End,
     }
+}
+
+/// What stands for a FUNCTION statement whose type is refused.
+fn unread_function(alloc: Global) -> Statement77
+    ensures { statement_of result ≡ unread_function }
+{
+    let name = Name::new(b"MAIN");
+    Statement77::Header(Header77::Function(None, name, Items::new(alloc)))
 }
 
 /// Reads a statement of this kind, unless it is a logical IF.
@@ -148,8 +164,10 @@ pub fn read_plain<'a>(
         Kind::Do => behind(alloc, "DO", Sort::Control(ControlSort::Do), pieces),
         Kind::Assign => whole(alloc, Sort::Control(ControlSort::Assignment), pieces),
         Kind::Keyword(word) => keyword(alloc, word, pieces),
-        Kind::Unsupported(word) => Ok(Some((stands(word), unsupported(word.shown())))),
-        Kind::RefusedFunction(word) => Ok(Some((Statement77::End, unsupported(word.text())))),
+        Kind::Unsupported(word) => Ok(Some((stands(alloc, word), unsupported(word.shown())))),
+        Kind::RefusedFunction(word) => {
+            Ok(Some((unread_function(alloc), unsupported(word.text()))))
+        }
         Kind::Nothing => Ok(None),
     }
 }

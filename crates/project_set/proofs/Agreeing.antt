@@ -5,8 +5,8 @@ use Rattle.std.specs.Option.{option_map, option_and_then}
 use Rattle.std.specs.Str.{bytes_eq}
 use Rattle.text_base.specs.Values.{Value, integer, Held, undefined, holds_integer, holds_logical, held, integer_in}
 use Rattle.text_base.specs.Evaluation.{Storage}
-use Rattle.tree77.specs.Layout.{Entity, entity_of, entity_named, numeric_place}
-use Rattle.tree77.specs.Meaning.{Store, read_at, write_at, tagged, start77}
+use Rattle.program77.specs.Layout.{Entity, entity_of, entity_named, numeric_place}
+use Rattle.program77.specs.Meaning.{Store, read_at, write_at, tagged, start77}
 use Rattle.tree90.specs.Tree.{Declared, integer_object}
 use Rattle.tree90.specs.Meaning.{Cells, integers, Object, Objects, is_object, cells_of, with_cells, integer_at, scalar, untagged, AreDeclaredAs}
 use Rattle.project_set.proofs.Names.{place_of, bytes_same}

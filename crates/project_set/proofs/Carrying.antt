@@ -3,12 +3,13 @@ use Rattle.std.proofs.Common.{◌≡◌, ℕ, ◌≤◌, List, [], ◌∷◌, ma
 use Rattle.std.proofs.lemmas.List.{append-nil}
 use Rattle.text_base.specs.Cards.{Comment, comments}
 use Rattle.text_base.specs.Runs.{Final, going, ended, fault}
-use Rattle.tree77.specs.Tree.{SourceUnit, SourceProgram}
-use Rattle.tree77.specs.Typing.{variables, code_names}
-use Rattle.tree77.specs.Source.{IsSource}
-use Rattle.tree77.specs.Layout.{Layout}
-use Rattle.tree77.specs.Meaning.{Store, start77, run77, run_main}
-use Rattle.tree77.specs.Meaning as flat
+use Rattle.program77.specs.Tree.{SourceUnit, SourceProgram}
+use Rattle.program77.specs.Typing.{variables, code_names}
+use Rattle.program77.specs.Plain.{source_unit}
+use Rattle.program77.specs.Source.{IsSource}
+use Rattle.program77.specs.Layout.{Layout}
+use Rattle.program77.specs.Meaning.{Store, start77, run77, run_main}
+use Rattle.program77.specs.Meaning as flat
 use Rattle.tree90.specs.Meaning.{Objects, declared_in, AreDeclaredAs, IsStart, run90}
 use Rattle.tree90.specs.Meaning as nested
 use Rattle.project_set.specs.MapText.{MapLine, map_lines, map_line_of}
@@ -64,4 +65,4 @@ module _ (cs : List Comment) (u : SourceUnit) where
   }
 
 pub does_the_same : (bytes : List ℕ) (p : SourceProgram) → IsSource 0 bytes p → DoesTheSame p (written (comments bytes) p) (map_lines p)
-does_the_same bytes p source = subst (λ (q : SourceProgram). DoesTheSame q (written (comments bytes) q) (map_lines q)) (sym source.whole) (one_does_the_same (comments bytes) source.unit)
+does_the_same bytes p source = subst (λ (q : SourceProgram). DoesTheSame q (written (comments bytes) q) (map_lines q)) (sym source.whole) (one_does_the_same (comments bytes) (source_unit source.unit))

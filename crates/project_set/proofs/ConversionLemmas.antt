@@ -1,18 +1,24 @@
 -- What is converted: the program of a file, with its comments.
-use Rattle.std.proofs.Common.{◌≡◌, ℕ, zero, suc, ◌+◌, ◌-◌, ◌≤◌, List, [], length, Some, None, refl, sym, ap, ◌∙◌, subst, arith}
+use Rattle.std.proofs.Common.{◌≡◌, ℕ, zero, suc, ◌+◌, ◌-◌, ◌≤◌, List, [], length, map, Option, Some, None, refl, sym, ap, ◌∙◌, subst, arith}
 use Rattle.std.specs.Prelude.{if◌then◌else◌}
 use Rattle.std.specs.Option.{option_map, option_and_then}
 use Rattle.std.proofs.lemmas.List.{length-map}
-use Rattle.text_base.specs.Cards.{Comment, cards, comments}
+use Rattle.text_base.specs.Cards.{Card, Comment, cards, comments}
 use Rattle.text_base.specs.LineRefusals.{card_refusals}
-use Rattle.tree77.specs.Plain.{unit_of}
-use Rattle.tree77.specs.Source.{IsSource}
-use Rattle.tree77.specs.Tree.{SourceUnit, SourceProgram}
-use Rattle.tree77.specs.declared.tree.Unit77.{Unit77}
-use Rattle.parse77.specs.SourceReading.{read_of, file_statements, read_unit, typed_unit, unless_refused, read_source}
+use Rattle.program77.specs.Plain.{one_converted, source_of}
+use Rattle.program77.specs.Source.{IsSource}
+use Rattle.program77.specs.Tree.{SourceUnit, SourceProgram}
+use Rattle.unit77.specs.CardPrograms.{AreUnitsOf}
+use Rattle.unit77.specs.Counts.{Reading}
+use Rattle.unit77.specs.Laws.{IsProgram}
+use Rattle.unit77.specs.Programs.{ProgramUnit}
+use Rattle.unit77.specs.UnitViews.{unit_of}
+use Rattle.unit77.specs.declared.tree.Unit77.{Unit77}
+use Rattle.program77.specs.SourceReading.{read_of, file_statements, read_unit, typed_unit, unless_refused, read_source}
 use Rattle.project_set.specs.Comments.{groups_at, ArePlaced}
 use Rattle.project_set.specs.Conversion.{IsConvertible}
-use Rattle.project_set.specs.Refusals.{statement_refusals, unbuilt_refusals, unit_refusals}
+use Rattle.parse77.specs.Statement.{deck_refusals, file_readings}
+use Rattle.project_set.specs.Refusals.{unbuilt_refusals, unit_refusals}
 use Rattle.project_set.specs.Rewrite.{comments_from}
 use Rattle.project_set.specs.declared.comments.Comments.{Comments}
 use Rattle.project_set.proofs.Placing.{one_unit}
@@ -24,15 +30,31 @@ abbrev pub SourceFound : Type 0
 SourceFound = (file : ℕ) (bytes : List ℕ) (p : SourceProgram) → read_source file bytes ≡ Some p → IsSource file bytes p
 
 -- a program whose lines and statements are accepted is converted
-pub converted : SourceFound → (bytes : List ℕ) (u : SourceUnit) → card_refusals 0 bytes ≡ [] → statement_refusals (cards 0 bytes) ≡ [] → unbuilt_refusals (cards 0 bytes) ≡ [] → read_unit (file_statements 0 bytes) ≡ Some u → IsConvertible bytes (one_unit u)
+pub converted : SourceFound → (bytes : List ℕ) (u : SourceUnit) → card_refusals 0 bytes ≡ [] → deck_refusals (cards 0 bytes) ≡ [] → unbuilt_refusals (cards 0 bytes) ≡ [] → read_unit (file_statements 0 bytes) ≡ Some u → IsConvertible bytes (one_unit u)
 converted found bytes u lines statements built unit =
     let typed = unit_is_typed (cards 0 bytes) u built unit in
     let read : read_source 0 bytes ≡ Some (one_unit u) =
-    ap (λ rs. unless_refused rs (option_map one_unit (option_and_then typed_unit (read_unit (file_statements 0 bytes))))) lines
+    let whole = option_map one_unit (option_and_then typed_unit (read_unit (file_statements 0 bytes))) in
+    ap (λ rs. unless_refused rs (unless_refused (deck_refusals (cards 0 bytes)) whole)) lines
+    ∙ ap (λ rs. unless_refused rs whole) statements
     ∙ ap (λ o. option_map one_unit (option_and_then typed_unit o)) unit
     ∙ ap (λ b. option_map one_unit (if b then Some u else None)) typed in
     let none : Accepted bytes = record { lines = lines; statements = statements; built = built; unit = ap (unit_refusals 0) unit } in
     record { is_source = found 0 bytes (one_unit u) read; accepted = nothing_refused bytes none }
+
+-- what the laws on files and on sources say: the units of a file are the one that is read, where it is converted
+abbrev pub UnitsAsRead : Type 0
+UnitsAsRead = (cards : List Card) (us : List ProgramUnit) → IsProgram (file_readings cards) us → AreUnitsOf cards us
+
+abbrev pub UnitRead : Type 0
+UnitRead = (cards : List Card) (us : List ProgramUnit) → AreUnitsOf cards us → read_unit (map read_of cards) ≡ one_converted us
+
+-- the main program that the units of a file are is the one that is read
+pub unit_found : UnitsAsRead → UnitRead → (bytes : List ℕ) (readings : List Reading) (us : List Unit77) (made : Option Unit77)
+    → readings ≡ file_readings (cards 0 bytes) → IsProgram readings (map unit_of us) → option_map source_of made ≡ one_converted (map unit_of us)
+    → read_unit (file_statements 0 bytes) ≡ option_map source_of made
+unit_found as_read read bytes readings us made same nested found =
+    read (cards 0 bytes) (map unit_of us) (as_read (cards 0 bytes) (map unit_of us) (subst (λ (rs : List Reading). IsProgram rs (map unit_of us)) same nested)) ∙ sym found
 
 length_groups : (cs : List Comment) (k n : ℕ) → length (groups_at cs k n) ≡ n
 length_groups cs k zero = refl
@@ -43,11 +65,11 @@ pub record IsUnitOf (bytes : List ℕ) (u : Unit77) (placed : Comments) : Type 0
   pub counted : length placed.before ≡ length u.items + 1
   pub at : ArePlaced (comments bytes) (length placed.before) placed
 
-pub unit_of_file : (bytes : List ℕ) (u : Unit77) (placed : Comments) → read_unit (file_statements 0 bytes) ≡ Some (unit_of u)
+pub unit_of_file : (bytes : List ℕ) (u : Unit77) (placed : Comments) → read_unit (file_statements 0 bytes) ≡ Some (source_of u)
     → (2 ≤ length (cards 0 bytes) → ArePlaced (comments bytes) (length (cards 0 bytes) - 1) placed) → IsUnitOf bytes u placed
 unit_of_file bytes u placed unit at =
     let count : length (cards 0 bytes) ≡ length u.items + 2 =
-    sym (unit_size (file_statements 0 bytes) (unit_of u) unit ∙ length-map (cards 0 bytes) read_of) ∙ ap (λ n. n + 2) (items_count u.items) in
+    sym (unit_size (file_statements 0 bytes) (source_of u) unit ∙ length-map (cards 0 bytes) read_of) ∙ ap (λ n. n + 2) (items_count u.items) in
     let here = at (omega (arith, count)) in
     let size : length placed.before ≡ length (cards 0 bytes) - 1 = ap length here.before ∙ length_groups (comments_from (comments bytes) 2) 1 (length (cards 0 bytes) - 1) in
     record {

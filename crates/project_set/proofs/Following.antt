@@ -8,9 +8,9 @@ use Rattle.text_base.specs.Runs.{Final, going, ended, fault, Out, gives, over, b
 use Rattle.text_base.specs.Evaluation.{Storage, Call}
 use Rattle.text_base.specs.Evaluation as e
 use Rattle.text_base.specs.declared.refusal.Place.{Place}
-use Rattle.tree77.specs.Tree as source
-use Rattle.tree77.specs.Meaning.{Store, Line, lines, Open, from, proceed}
-use Rattle.tree77.specs.Meaning as flat
+use Rattle.program77.specs.Tree as source
+use Rattle.program77.specs.Meaning.{Store, Line, lines, Open, from, proceed}
+use Rattle.program77.specs.Meaning as flat
 use Rattle.text_base.specs.Remarks.{Remark}
 use Rattle.tree90.specs.Meaning.{Objects, untagged, nowhere, next, body, unit_end}
 use Rattle.tree90.specs.Meaning as nested

@@ -1,7 +1,8 @@
 -- What assignments and PROGRAM statements are made of: their names are names, and their constants are in the range.
-use Rattle.std.proofs.Common.{◌≡◌, ◌⊎◌, ⊎_elim, ℕ, Bool, true, false, ◌&&◌, List, [], ◌∷◌, ◌++◌, length, map, take, Option, Some, None, refl, sym, ap, ◌∙◌, subst}
+use Rattle.std.proofs.Common.{◌≡◌, ◌⊎◌, ⊎_elim, ℕ, Bool, true, false, ◌&&◌, List, [], ◌∷◌, ◌++◌, codes, length, map, take, Option, Some, None, refl, sym, ap, ◌∙◌, subst}
 use Rattle.std.specs.Prelude.{◌≢◌, if◌then◌else◌}
 use Rattle.std.specs.List.{list_all}
+use Rattle.std.specs.Str.{bytes_eq}
 use Rattle.std.proofs.lemmas.Bool.{and_from, and_parts}
 use Rattle.std.proofs.lemmas.Option.{same_Some}
 use Rattle.text_base.specs.Chars.{is_upper, is_name_byte, is_name}
@@ -17,7 +18,7 @@ use Rattle.tree77.specs.Kinds as kind
 use Rattle.tree77.specs.Kinds.{Kind, is_among}
 use Rattle.tree77.specs.Lexemes.{Part}
 use Rattle.tree77.specs.SpecificationForms as d
-use Rattle.tree77.specs.Spelling.{room_of, refused_actions, stand_in, IsFormatBody, body_spelled, body_refused, IsPlainIf, if_labels, if_block, IsKeywordStatement, keyword_form, keyword_typed, keyword_if, IsSpelledAs, IsWideStatement, wide_plain, wide_logical}
+use Rattle.tree77.specs.Spelling.{room_of, refused_actions, refused_declarations, refused_anywhere, stand_in, IsFormatBody, body_spelled, body_refused, IsPlainIf, if_labels, if_block, IsKeywordStatement, keyword_form, keyword_typed, keyword_if, IsSpelledAs, IsWideStatement, wide_plain, wide_logical}
 use Rattle.tree77.specs.Statements as s
 use Rattle.tree77.specs.Statements.{Header, Simple, Statement}
 use Rattle.tree77.specs.TransferForms as t
@@ -203,11 +204,15 @@ keyword_is_sound word pieces x ps (keyword_if {rest = rest} is whole (if_labels 
 keyword_is_sound word pieces x ps (keyword_if {rest = rest} is whole (if_block labels block formed)) = form_is_sound (room_of rest) sort.then_sort 0 rest x ps formed
 
 stand_in_is_sound : (word : List ℕ) → IsSound (stand_in word)
-stand_in_is_sound word = go (is_among refused_actions word)
+stand_in_is_sound word = go (is_among refused_actions word) (is_among refused_declarations word) (is_among refused_anywhere word) (bytes_eq word (codes "IMPLICITNONE"))
   where
-    go : (b : Bool) → IsSound (if b then s.simple s.continue else s.end)
-    go true = tt
-    go false = tt
+    go : (a b c d : Bool)
+        → IsSound (if a then s.simple s.continue else (if b then s.declared (s.typed s.integer_type []) else (if c then s.declared (s.data_ []) else (if d then s.declared (s.implicit []) else s.end))))
+    go true b c d = tt
+    go false true c d = tt
+    go false false true d = tt
+    go false false false true = tt
+    go false false false false = tt
 
 spelled_is_sound : (k : Kind) (pieces : List Piece) (x : Statement) (ps : List Part) → IsSpelledAs k pieces x ps → IsSound x
 spelled_is_sound kind.format pieces x ps m = body_is_sound m.rest x ps m.body

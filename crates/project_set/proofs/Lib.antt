@@ -17,6 +17,7 @@ pub mod FormLemmas
 pub mod SpellingLemmas
 pub mod ShortLineLemmas
 pub mod ProperLemmas
+pub mod ItemLemmas
 pub mod NameLemmas
 pub mod MapLemmas
 pub mod SizeLemmas
@@ -24,5 +25,6 @@ pub mod FreeLemmas
 pub mod DeckLemmas
 pub mod RewriteLemmas
 pub mod StatementLemmas
+pub mod CardCount
 pub mod ConversionLemmas
 pub mod HeadingLemmas

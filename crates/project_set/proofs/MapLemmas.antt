@@ -1,8 +1,8 @@
 -- The lines of the map of one unit.
 use Rattle.std.proofs.Common.{◌≡◌, ℕ, List, [], ◌∷◌, ◌++◌, codes, map, refl, ap, ◌∙◌, append_assoc, lit<}
 use Rattle.std.proofs.lemmas.Fmt.{decimal_digit}
-use Rattle.tree77.specs.Tree.{SourceUnit}
-use Rattle.tree77.specs.Typing.{variables}
+use Rattle.program77.specs.Tree.{SourceUnit}
+use Rattle.program77.specs.Typing.{variables}
 use Rattle.project_set.specs.MapText.{map_line_text, map_text, map_line_of, map_lines, line_of, lines_text}
 use Rattle.project_set.proofs.Placing.{in_first, one_unit, variables_of_one}
 

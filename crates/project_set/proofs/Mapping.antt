@@ -6,8 +6,8 @@ use Rattle.std.specs.Option.{option_map, option_and_then}
 use Rattle.std.proofs.lemmas.List.{append_cancel_left}
 use Rattle.std.proofs.lemmas.Option.{slice_get-map, slice_get-get_or, slice_get_within, get_or_from_slice_get}
 use Rattle.text_base.specs.Values.{Held, undefined, holds_integer, holds_logical}
-use Rattle.tree77.specs.Layout.{Kind, integers, logicals, Sequence, Entity, Layout, sequence_of, entity_of, numeric_place, text_place}
-use Rattle.tree77.specs.Meaning.{Store}
+use Rattle.program77.specs.Layout.{Kind, integers, logicals, Sequence, Entity, Layout, sequence_of, entity_of, numeric_place, text_place}
+use Rattle.program77.specs.Meaning.{Store}
 use Rattle.tree90.specs.Tree.{integer_object, FreeProgram}
 use Rattle.tree90.specs.Meaning.{Objects, integer_at, object_integer, declared_in}
 use Rattle.project_set.specs.MapText.{MapLine, home_text, sequence_text, map_line_of}

@@ -8,13 +8,15 @@ use Rattle.std.proofs.lemmas.List.Elements.{filter-append}
 use Rattle.std.proofs.lemmas.List.Sums.{fold-append}
 use Rattle.std.proofs.lemmas.Map.Views.{any-filter_same}
 use Rattle.std.proofs.lemmas.Slice.Eq.{bytes_eq-Decides}
-use Rattle.tree77.specs.Typing.{first_seen, code_names, stmt_names}
+use Rattle.program77.specs.Typing.{first_seen, code_names, stmt_names}
 use Rattle.text_base.specs.Names.{expr_names, exprs_names}
 use Rattle.expr_tree.specs.Plain.{expr_of, exprs_of}
 use Rattle.expr_tree.specs.declared.tree.Expr.{Expr}
-use Rattle.tree77.specs.Plain.{code_of, stmt_of}
-use Rattle.tree77.specs.declared.tree.Item77.{Item77}
+use Rattle.program77.specs.Plain.{code_of, first_stmt}
+use Rattle.unit77.specs.declared.tree.Item77.{Item77}
+use Rattle.unit77.specs.Views.{item_of, items_of}
 use Rattle.project_set.specs.Variables.{with_name, with_names}
+use Rattle.project_set.proofs.ItemLemmas.{first_of_items}
 
 abbrev differs : List ℕ → List ℕ → Bool
 differs y x = not (bytes_eq y x)
@@ -145,21 +147,25 @@ added_expr exprs i expr start out new is lt before step =
 -- ---- the names of items
 
 -- one more item
-names_more : (is : List Item77) (i : Item77) → code_names (code_of (is ++ i ∷ [])) ≡ code_names (code_of is) ++ stmt_names (stmt_of i.body)
-names_more [] i = append-nil (stmt_names (stmt_of i.body))
+names_more : (is : List Item77) (i : Item77) → code_names (code_of (items_of (is ++ i ∷ []))) ≡ code_names (code_of (items_of is)) ++ stmt_names (first_stmt (item_of i))
+names_more [] i = ap code_names (first_of_items i []) ∙ append-nil (stmt_names (first_stmt (item_of i)))
 names_more (x ∷ is) i =
-    ap (λ l. stmt_names (stmt_of x.body) ++ l) (names_more is i)
-    ∙ sym (append_assoc (stmt_names (stmt_of x.body)) (code_names (code_of is)) (stmt_names (stmt_of i.body)))
+    let own = stmt_names (first_stmt (item_of x)) in
+    let more = stmt_names (first_stmt (item_of i)) in
+    ap code_names (first_of_items x (is ++ i ∷ []))
+    ∙ ap (λ l. own ++ l) (names_more is i)
+    ∙ sym (append_assoc own (code_names (code_of (items_of is))) more)
+    ∙ ap (λ l. l ++ more) (sym (ap code_names (first_of_items x is)))
 
 -- the step of a loop that adds the names of one more item
 pub added_more : (items : List Item77) (i : ℕ) (item : Item77) (start out new : List (List ℕ))
     → item ≡ get_or items i item → i < length items
-    → out ≡ with_names start (code_names (code_of (take i items))) → new ≡ with_names out (stmt_names (stmt_of item.body))
-    → new ≡ with_names start (code_names (code_of (take (i + 1) items)))
+    → out ≡ with_names start (code_names (code_of (items_of (take i items)))) → new ≡ with_names out (stmt_names (first_stmt (item_of item)))
+    → new ≡ with_names start (code_names (code_of (items_of (take (i + 1) items))))
 added_more items i item start out new is lt before step =
     step
-    ∙ ap (λ names. with_names names (stmt_names (stmt_of item.body))) before
-    ∙ sym (fold-append with_name start (code_names (code_of (take i items))) (stmt_names (stmt_of item.body)))
+    ∙ ap (λ names. with_names names (stmt_names (first_stmt (item_of item)))) before
+    ∙ sym (fold-append with_name start (code_names (code_of (items_of (take i items)))) (stmt_names (first_stmt (item_of item))))
     ∙ ap (λ l. with_names start l) (sym (names_more (take i items) item))
-    ∙ ap (λ (x : Item77). with_names start (code_names (code_of (take i items ++ x ∷ [])))) is
-    ∙ ap (λ l. with_names start (code_names (code_of l))) (sym (take_more items i item lt))
+    ∙ ap (λ (x : Item77). with_names start (code_names (code_of (items_of (take i items ++ x ∷ []))))) is
+    ∙ ap (λ l. with_names start (code_names (code_of (items_of l)))) (sym (take_more items i item lt))

@@ -6,7 +6,7 @@ use Rattle.std.specs.Option.{option_map}
 use Rattle.std.specs.Str.{bytes_eq}
 use Rattle.std.proofs.lemmas.Slice.Eq.{bytes_eq-Decides}
 use Rattle.std.proofs.lemmas.Bool.{and_from, and_parts, not-true}
-use Rattle.tree77.specs.Typing.{first_seen}
+use Rattle.program77.specs.Typing.{first_seen}
 
 -- the test of bytes holds of equal ones
 pub bytes_same : (a b : List ℕ) → a ≡ b → bytes_eq a b ≡ true

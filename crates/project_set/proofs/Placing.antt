@@ -6,9 +6,9 @@ use Rattle.std.specs.Option.{option_map}
 use Rattle.std.specs.Str.{bytes_eq}
 use Rattle.std.proofs.lemmas.List.{append-nil}
 use Rattle.text_base.proofs.CharTests.{same_bytes}
-use Rattle.tree77.specs.Tree.{SourceUnit, SourceProgram}
-use Rattle.tree77.specs.Typing.{variables}
-use Rattle.tree77.specs.Layout.{Layout, Sequence, Entity, variables_from, sequence_of, entity_of, layout_of, numeric_count, numeric_place, entity_named}
+use Rattle.program77.specs.Tree.{SourceUnit, SourceProgram}
+use Rattle.program77.specs.Typing.{variables}
+use Rattle.program77.specs.Layout.{Layout, Sequence, Entity, variables_from, sequence_of, entity_of, layout_of, numeric_count, numeric_place, entity_named}
 use Rattle.project_set.proofs.Names.{place_of}
 
 -- a variable of the first unit

@@ -4,9 +4,10 @@ use Rattle.std.specs.Prelude.{nat_le, nat_lt}
 use Rattle.std.proofs.lemmas.List.{map-append, append_assoc}
 use Rattle.std.proofs.lemmas.Bool.{and_from, and_parts, leb-true, lt-ltb, le-ltb}
 use Rattle.text_base.specs.Cards.{Comment, comments}
-use Rattle.tree77.specs.Tree as source
-use Rattle.tree77.specs.Tree.{SourceUnit, SourceProgram}
-use Rattle.tree77.specs.Source.{IsSource}
+use Rattle.program77.specs.Tree as source
+use Rattle.program77.specs.Tree.{SourceUnit, SourceProgram}
+use Rattle.program77.specs.Plain.{source_unit}
+use Rattle.program77.specs.Source.{IsSource}
 use Rattle.text_base.specs.Remarks.{Remark}
 use Rattle.project_set.specs.Rewrite.{remark_of, comments_at, comments_from, remarks_at, written_list, count_of, size_of, sizes_of, written}
 use Rattle.project_set.specs.Positions.{Position, before_header, after_header, before_entry, at_end, Placed, entries_in, position_in, position_of, source_positions, placed_at, code_positions, written_positions}
@@ -230,4 +231,4 @@ module _ (u : SourceUnit) where
 -- the comments of a source stand at the same positions in what is written
 pub comments_kept : (bytes : List ℕ) (p : SourceProgram) → IsSource 0 bytes p → source_positions bytes p ≡ written_positions (written (comments bytes) p)
 comments_kept bytes p s =
-    subst (λ (q : SourceProgram). source_positions bytes q ≡ written_positions (written (comments bytes) q)) (sym s.whole) (unit_comments s.unit (comments bytes) (comments_ascend bytes))
+    subst (λ (q : SourceProgram). source_positions bytes q ≡ written_positions (written (comments bytes) q)) (sym s.whole) (unit_comments (source_unit s.unit) (comments bytes) (comments_ascend bytes))

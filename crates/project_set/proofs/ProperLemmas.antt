@@ -1,5 +1,6 @@
 -- What is written for a source that is converted is proper.
-use Rattle.std.proofs.Common.{◌≡◌, ℕ, ◌+◌, true, not, List, [], ◌∷◌, ◌++◌, map, refl, sym, ap, ◌∙◌, subst}
+use Rattle.std.proofs.Common.{◌≡◌, ℕ, ◌+◌, true, not, List, [], ◌∷◌, ◌++◌, map, Some, None, refl, sym, ap, ◌∙◌, subst}
+use Rattle.std.specs.Prelude.{if◌then◌else◌}
 use Rattle.std.specs.List.{list_all}
 use Rattle.std.specs.Str.{bytes_eq}
 use Rattle.std.proofs.lemmas.List.{append-nil}
@@ -9,9 +10,11 @@ use Rattle.text_base.specs.Lines.{cut}
 use Rattle.text_base.specs.Cards.{Comment, cards, comments}
 use Rattle.text_base.specs.Chars.{is_name}
 use Rattle.text_base.specs.Names.{action_names}
-use Rattle.tree77.specs.Tree.{simple, continue, Code, done, item, SourceUnit, SourceProgram}
-use Rattle.tree77.specs.Typing as source
-use Rattle.tree77.specs.Typing.{first_seen, variables, is_integer_name, is_variable, is_typed}
+use Rattle.program77.specs.Plain.{source_unit}
+use Rattle.program77.specs.SourceReading.{read_of, read_unit}
+use Rattle.program77.specs.Tree.{simple, continue, Code, done, item, SourceUnit, SourceProgram}
+use Rattle.program77.specs.Typing as source
+use Rattle.program77.specs.Typing.{first_seen, variables, is_integer_name, is_variable, is_typed}
 use Rattle.text_base.specs.Remarks.{Remark}
 use Rattle.tree90.specs.Tree.{integer_object}
 use Rattle.tree90.specs.Printed.{printed}
@@ -19,12 +22,13 @@ use Rattle.tree90.specs.Proper as p
 use Rattle.tree90.specs.Proper.{declared_name, is_among, are_distinct, IsWritableUnit, IsWritable, IsProper}
 use Rattle.project_set.specs.Rewrite.{remark_of, comments_from, remarks_at, written_list, written_unit, sizes_of, written}
 use Rattle.project_set.specs.Laws.{WrittenIsProper}
+use Rattle.project_set.proofs.ConversionLemmas.{UnitRead}
 use Rattle.project_set.proofs.Names.{distinct_first_seen}
 use Rattle.project_set.proofs.RefusalLemmas.{accepted}
 use Rattle.project_set.proofs.Seen.{all_implied, all_first, apart_from_all, are_distinct_names, all_are_seen}
 use Rattle.project_set.proofs.ShortPieces.{is_short, short_nothing, short_append}
 use Rattle.project_set.proofs.ShortRemarks.{are_short_comments, are_writable, remarks_are_short, remarks_of_comments, remarks_at_are_short, comments_from_are_short, comments_are_short}
-use Rattle.project_set.proofs.ShortLineLemmas.{CardOnly, ShortUnit, unit_is_spelled, unit_lines}
+use Rattle.project_set.proofs.ShortLineLemmas.{CardFound, ShortUnit, unit_is_short, unit_lines}
 
 -- ---- names
 
@@ -106,9 +110,11 @@ program_is_proper cs u short s typed = record {
 }
 
 -- what is written for a source that is converted is proper
-pub written_is_proper : CardOnly → WrittenIsProper
-written_is_proper only bytes q c =
+pub written_is_proper : CardFound → UnitRead → WrittenIsProper
+written_is_proper found read bytes q c =
     let s = c.is_source in
-    let unit = unit_is_spelled only (cards 0 bytes) s.unit (accepted bytes c.accepted).built s.spelled in
+    let made : read_unit (map read_of (cards 0 bytes)) ≡ Some (source_unit s.unit) =
+    read (cards 0 bytes) (s.unit ∷ []) s.units ∙ ap (λ b. if b then Some (source_unit s.unit) else None) s.converted in
+    let unit = unit_is_short found (cards 0 bytes) (source_unit s.unit) (accepted bytes c.accepted).built made in
     subst (λ (r : SourceProgram). IsProper (written (comments bytes) r)) (sym s.whole)
-    (program_is_proper (comments bytes) s.unit (comments_are_short bytes s.accepted) unit s.typed)
+    (program_is_proper (comments bytes) (source_unit s.unit) (comments_are_short bytes s.accepted) unit s.typed)

@@ -12,13 +12,14 @@ use Rattle.text_base.specs.LineRefusals.{too_large, passes_sum, line_refusals, c
 use Rattle.text_base.specs.Trees.{Action}
 use Rattle.text_base.specs.declared.refusal.Place.{Place}
 use Rattle.text_base.specs.declared.refusal.Refusal.{Refusal}
-use Rattle.tree77.specs.Tree.{SourceUnit}
-use Rattle.tree77.specs.Spelling.{Built, program, action, continue, end_of_unit}
+use Rattle.program77.specs.Tree.{SourceUnit}
+use Rattle.program77.specs.Built.{Built, program, action, continue, end_of_unit}
 use Rattle.text_base.specs.Names.{action_names}
-use Rattle.tree77.specs.Typing.{code_names, is_variable, is_typed}
-use Rattle.parse77.specs.SourceReading.{ReadCard, read_card, read_of, file_statements, Ended, join_code, read_code, unit_with, read_unit}
-use Rattle.parse77.specs.Unit.{header_name}
-use Rattle.project_set.specs.Refusals.{program_name, is_free_name, is_built_action, is_short, is_built_statement, is_built_as, is_built_card, not_built_at, statement_refusals, unbuilt_refusals, unit_refusals, first_of, source_refusals, refusals}
+use Rattle.program77.specs.Typing.{code_names, is_variable, is_typed}
+use Rattle.program77.specs.SourceReading.{ReadCard, read_card, read_of, file_statements, Ended, join_code, read_code, unit_with, read_unit}
+use Rattle.program77.specs.SourceReading.{header_name}
+use Rattle.parse77.specs.Statement.{deck_refusals}
+use Rattle.project_set.specs.Refusals.{program_name, is_free_name, is_built_action, is_short, is_built_statement, is_built_as, is_built_card, not_built_at, unbuilt_refusals, unit_refusals, first_of, source_refusals, refusals}
 
 -- ---- phases
 
@@ -55,7 +56,7 @@ lines_accepted bytes e = go (nat_lt 16777216 (length bytes)) refl e
 -- in no phase is something refused of the file
 pub record Accepted (bytes : List ℕ) : Type 0 where
   pub lines : card_refusals 0 bytes ≡ []
-  pub statements : statement_refusals (cards 0 bytes) ≡ []
+  pub statements : deck_refusals (cards 0 bytes) ≡ []
   pub built : unbuilt_refusals (cards 0 bytes) ≡ []
   pub unit : unit_refusals 0 (read_unit (file_statements 0 bytes)) ≡ []
 
@@ -63,7 +64,7 @@ pub accepted : (bytes : List ℕ) → refusals bytes ≡ [] → Accepted bytes
 accepted bytes e =
     let unit = unit_refusals 0 (read_unit (file_statements 0 bytes)) in
     let first = first_nothing (files_refusals 0 0 (bytes ∷ [])) (source_refusals (cards 0 bytes) (read_unit (file_statements 0 bytes))) e in
-    let second = first_nothing (statement_refusals (cards 0 bytes)) (first_of (unbuilt_refusals (cards 0 bytes)) unit) first.1 in
+    let second = first_nothing (deck_refusals (cards 0 bytes)) (first_of (unbuilt_refusals (cards 0 bytes)) unit) first.1 in
     let third = first_nothing (unbuilt_refusals (cards 0 bytes)) unit second.1 in
     record { lines = sym (one_file bytes) ∙ first.0; statements = second.0; built = third.0; unit = third.1 }
 

@@ -5,11 +5,12 @@ use Rattle.std.proofs.lemmas.List.{length_push, reverse-append}
 use Rattle.text_base.specs.Cards.{Comment}
 use Rattle.text_base.specs.Remarks.{Remark}
 use Rattle.text_base.specs.declared.refusal.Place.{Place}
-use Rattle.tree77.specs.Plain as source
-use Rattle.tree77.specs.Tree as t
-use Rattle.tree77.specs.Typing.{variables}
-use Rattle.tree77.specs.declared.tree.Item77.{Item77}
-use Rattle.tree77.specs.declared.tree.Unit77.{Unit77}
+use Rattle.program77.specs.Plain as source
+use Rattle.program77.specs.Tree as t
+use Rattle.program77.specs.Typing.{variables}
+use Rattle.unit77.specs.declared.tree.Item77.{Item77}
+use Rattle.unit77.specs.declared.tree.Unit77.{Unit77}
+use Rattle.unit77.specs.Views.{item_of, items_of}
 use Rattle.tree90.specs.Tree.{simple, Declared, integer_object, FreeUnit, FreeProgram}
 use Rattle.tree90.specs.Plain as free
 use Rattle.tree90.specs.Plain.{CodeAndTail, with_item}
@@ -19,6 +20,7 @@ use Rattle.tree90.specs.declared.tree.Unit90.{Unit90}
 use Rattle.project_set.specs.Comments.{groups_at, ArePlaced}
 use Rattle.project_set.specs.Rewrite.{remark_of, comments_from, remarks_at, statements_of, with_tail, written_list, sizes_of, written}
 use Rattle.project_set.specs.declared.comments.Comments.{Comments}
+use Rattle.project_set.proofs.ItemLemmas.{first_of_items, first_label, first_place}
 use Rattle.project_set.proofs.SizeLemmas.{items_count}
 
 -- ---- one item
@@ -59,17 +61,19 @@ abbrev pub IsWritten : List Comment → ℕ → List Item90 → List Remark → 
 IsWritten cs k made tail code = (left : List Remark) → with_tail (free.listed_of left made) tail ≡ written_list cs k left code
 
 -- one item before others
-item_before : (cs : List Comment) (k : ℕ) (x : Item77) (y : Item90) (made : List Item90) (tail : List Remark) (code : t.Code)
-    → y.comments ≡ remarks_at cs k → map free.stmt_of y.body ≡ statements_of (source.stmt_of x.body)
-    → IsWritten cs (k + 1) made tail code → IsWritten cs k (y ∷ made) tail (t.item x.label x.place (source.stmt_of x.body) code)
-item_before cs k x y made tail code comments body others left =
+item_before : (cs : List Comment) (k : ℕ) (x : Item77) (y : Item90) (made : List Item90) (tail : List Remark) (behind : List Item77)
+    → y.comments ≡ remarks_at cs k → map free.stmt_of y.body ≡ statements_of (source.first_stmt (item_of x))
+    → IsWritten cs (k + 1) made tail (source.code_of (items_of behind)) → IsWritten cs k (y ∷ made) tail (source.code_of (items_of (x ∷ behind)))
+item_before cs k x y made tail behind comments body others left =
     let remarks = left ++ remarks_at cs k in
-    let s = source.stmt_of x.body in
+    let s = source.first_stmt (item_of x) in
+    let code = source.code_of (items_of behind) in
     body_tail (left ++ y.comments) y.body (λ l. free.listed_of l made) tail
     ∙ ap (λ r. free.body_of (left ++ r) y.body (λ l. with_tail (free.listed_of l made) tail)) comments
     ∙ body_of-first y.body s remarks (λ l. with_tail (free.listed_of l made) tail) body
     ∙ written_same s remarks (λ l. with_tail (free.listed_of l made) tail) (λ l. written_list cs (k + 1) l code) others
-    ∙ sym (written_list-first cs k left x.label x.place s code)
+    ∙ sym (written_list-first cs k left (first_label x) (first_place x) s code)
+    ∙ ap (written_list cs k left) (sym (first_of_items x behind))
 
 -- ---- the loop
 
@@ -118,16 +122,16 @@ items_all all old new x parted whole =
 -- one item more is made
 pub made_more : (cs : List Comment) (k : ℕ) (all old new : List Item77) (x : Item77) (made grown : List Item90) (y : Item90) (tail : List Remark)
     → old ≡ new ++ x ∷ [] → old ++ drop (length old) all ≡ all → grown ≡ made ++ y ∷ []
-    → y.comments ≡ remarks_at cs (k + length new) → map free.stmt_of y.body ≡ statements_of (source.stmt_of x.body)
-    → IsWritten cs (k + length old) (reverse made) tail (source.code_of (drop (length old) all))
-    → IsWritten cs (k + length new) (reverse grown) tail (source.code_of (drop (length new) all))
+    → y.comments ≡ remarks_at cs (k + length new) → map free.stmt_of y.body ≡ statements_of (source.first_stmt (item_of x))
+    → IsWritten cs (k + length old) (reverse made) tail (source.code_of (items_of (drop (length old) all)))
+    → IsWritten cs (k + length new) (reverse grown) tail (source.code_of (items_of (drop (length new) all)))
 made_more cs k all old new x made grown y tail parted whole pushed comments body others left =
     let next : k + length old ≡ k + length new + 1 = let e = ap length parted in let f = length_push new x in omega (arith, e, f) in
-    let behind = source.code_of (drop (length old) all) in
+    let behind = drop (length old) all in
     ap (λ l. with_tail (free.listed_of left (reverse l)) tail) pushed
     ∙ ap (λ l. with_tail (free.listed_of left l) tail) (reverse-append made (y ∷ []))
-    ∙ item_before cs (k + length new) x y (reverse made) tail behind comments body (subst (λ j. IsWritten cs j (reverse made) tail behind) next others) left
-    ∙ ap (λ l. written_list cs (k + length new) left (source.code_of l)) (sym (items_behind all old new x parted whole))
+    ∙ item_before cs (k + length new) x y (reverse made) tail behind comments body (subst (λ j. IsWritten cs j (reverse made) tail (source.code_of (items_of behind))) next others) left
+    ∙ ap (λ l. written_list cs (k + length new) left (source.code_of (items_of l))) (sym (items_behind all old new x parted whole))
 
 -- ---- a program of one unit
 
@@ -141,25 +145,25 @@ one_free unit tail = record { units = unit ∷ []; tail = tail }
 
 -- what is made of a unit and its comments is what is written for its program
 pub program_made : (cs : List Comment) (u : Unit77) (names : List (List ℕ)) (placed : Comments) (front : List (List Remark)) (tail : List Remark) (made : Unit90)
-    → length placed.before ≡ length u.items + 1 → names ≡ variables (source.unit_of u) → placed.before ≡ front ++ tail ∷ []
-    → made.name ≡ u.name → made.head ≡ placed.head → made.inner ≡ placed.inner → made.tail ≡ tail → map free.declared_of made.declared ≡ map integer_object names
-    → ((ds : List Comment) (k : ℕ) → front ≡ groups_at ds k (length u.items) → with_tail (free.listed_of [] made.items) (remarks_at ds (k + length u.items)) ≡ written_list ds k [] (source.code_of u.items))
+    → length placed.before ≡ length u.items + 1 → names ≡ variables (source.source_of u) → placed.before ≡ front ++ tail ∷ []
+    → made.name ≡ (source.source_of u).name → made.head ≡ placed.head → made.inner ≡ placed.inner → made.tail ≡ tail → map free.declared_of made.declared ≡ map integer_object names
+    → ((ds : List Comment) (k : ℕ) → front ≡ groups_at ds k (length u.items) → with_tail (free.listed_of [] made.items) (remarks_at ds (k + length u.items)) ≡ written_list ds k [] (source.code_of (items_of u.items)))
     → ArePlaced cs (length placed.before) placed
-    → one_free (free.unit_of made) placed.tail ≡ written cs (record { units = source.unit_of u ∷ [] })
+    → one_free (free.unit_of made) placed.tail ≡ written cs (record { units = source.source_of u ∷ [] })
 program_made cs u names placed front tail made counted named parted name head inner end declared listed at =
     let ds = comments_from cs 2 in
     let n = length u.items in
     let groups : placed.before ≡ groups_at ds 1 (n + 1) = at.before ∙ ap (groups_at ds 1) counted in
     let split = groups_last ds 1 n placed.before front tail parted groups in
-    let list : with_tail (free.listed_of [] made.items) made.tail ≡ written_list ds 1 [] (source.code_of u.items) =
+    let list : with_tail (free.listed_of [] made.items) made.tail ≡ written_list ds 1 [] (source.code_of (items_of u.items)) =
     ap (with_tail (free.listed_of [] made.items)) (end ∙ split.1) ∙ listed ds 1 split.0 in
-    let size : length placed.before + 1 ≡ sizes_of (source.unit_of u ∷ []) = let same = items_count u.items in omega (arith, counted, same) in
-    let whole = written_list ds 1 [] (source.code_of u.items) in
-    let last : List Remark = map remark_of (comments_from cs (sizes_of (source.unit_of u ∷ []))) in
+    let size : length placed.before + 1 ≡ sizes_of (source.source_of u ∷ []) = let same = items_count u.items in omega (arith, counted, same) in
+    let whole = written_list ds 1 [] (source.code_of (items_of u.items)) in
+    let last : List Remark = map remark_of (comments_from cs (sizes_of (source.source_of u ∷ []))) in
     ap (λ l. one_free (free_with made.head made.name made.inner (map free.declared_of made.declared) l) placed.tail) list
     ∙ ap (λ l. one_free (free_with l made.name made.inner (map free.declared_of made.declared) whole) placed.tail) (head ∙ at.head)
     ∙ ap (λ l. one_free (free_with (remarks_at cs 0) l made.inner (map free.declared_of made.declared) whole) placed.tail) name
-    ∙ ap (λ l. one_free (free_with (remarks_at cs 0) u.name l (map free.declared_of made.declared) whole) placed.tail) (inner ∙ at.inner)
-    ∙ ap (λ l. one_free (free_with (remarks_at cs 0) u.name (remarks_at cs 1) l whole) placed.tail) (declared ∙ ap (map integer_object) named)
-    ∙ ap (λ l. one_free (free_with (remarks_at cs 0) u.name (remarks_at cs 1) (map integer_object (variables (source.unit_of u))) whole) l)
+    ∙ ap (λ l. one_free (free_with (remarks_at cs 0) (source.source_of u).name l (map free.declared_of made.declared) whole) placed.tail) (inner ∙ at.inner)
+    ∙ ap (λ l. one_free (free_with (remarks_at cs 0) (source.source_of u).name (remarks_at cs 1) l whole) placed.tail) (declared ∙ ap (map integer_object) named)
+    ∙ ap (λ l. one_free (free_with (remarks_at cs 0) (source.source_of u).name (remarks_at cs 1) (map integer_object (variables (source.source_of u))) whole) l)
     (at.tail ∙ ap (λ j. map remark_of (comments_from cs j)) size)

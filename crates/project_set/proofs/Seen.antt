@@ -4,7 +4,7 @@ use Rattle.std.specs.List.{list_all}
 use Rattle.std.specs.Str.{bytes_eq}
 use Rattle.std.proofs.lemmas.Bool.{and_from, and_parts}
 use Rattle.text_base.proofs.CharTests.{same_bytes}
-use Rattle.tree77.specs.Typing.{first_seen}
+use Rattle.program77.specs.Typing.{first_seen}
 use Rattle.tree90.specs.Proper.{is_among, are_distinct}
 use Rattle.project_set.proofs.Names.{bytes_same, all_filtered, Distinct}
 

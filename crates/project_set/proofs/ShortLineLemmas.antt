@@ -1,19 +1,21 @@
 -- The lines that are written for a source are short.
-use Rattle.std.proofs.Common.{◌≡◌, ℕ, ◌+◌, ◌≤◌, true, List, [], ◌∷◌, ◌++◌, length, map, codes, Option, Some, refl, ◌∙◌, subst, arith, length-append}
+use Rattle.std.proofs.Common.{◌≡◌, ℕ, ◌+◌, ◌≤◌, true, List, [], ◌∷◌, ◌++◌, length, map, codes, Option, Some, None, IfSome, refl, ◌∙◌, subst, arith, length-append}
 use Rattle.std.specs.Prelude.{replicate, flat_map}
 use Rattle.std.specs.List.{list_all}
+use Rattle.std.specs.Option.{option_and_then}
 use Rattle.std.proofs.lemmas.Bool.{leb-true, and_from, and_parts}
 use Rattle.std.proofs.lemmas.List.Folds.{list_all-append}
 use Rattle.text_base.specs.Cards.{Card, Comment}
 use Rattle.text_base.specs.Chars.{is_name}
 use Rattle.text_base.specs.Trees.{Action}
 use Rattle.text_base.specs.declared.refusal.Place.{Place}
-use Rattle.tree77.specs.Spelling.{Built, action}
-use Rattle.tree77.specs.Tree.{simple, continue, Code, done, item, SourceUnit}
+use Rattle.program77.specs.Built as built
+use Rattle.program77.specs.Built.{Built, program, action, end_of_unit}
+use Rattle.program77.specs.Tree.{simple, continue, Code, done, item, SourceUnit}
 use Rattle.text_base.specs.Names.{action_names}
-use Rattle.tree77.specs.Typing.{code_names, variables}
-use Rattle.tree77.specs.Source.{SpellsBuilt, SpellsCode, SpellsUnit}
-use Rattle.parse77.specs.SourceReading.{read_card, read_of}
+use Rattle.program77.specs.Typing.{code_names, variables}
+use Rattle.program77.specs.Built.{SpellsBuilt}
+use Rattle.program77.specs.SourceReading.{ReadCard, read_card, read_of, Ended, join_code, read_code, unit_with, read_unit}
 use Rattle.tree90.specs.Tree as free
 use Rattle.text_base.specs.Remarks.{Remark}
 use Rattle.tree90.specs.Tree.{integer_object}
@@ -55,39 +57,61 @@ action_and_more remarks a more short fits one rest = record {
   tail = rest.tail;
 }
 
--- what the law on statements says: each statement that a card spells is the one that is read
-abbrev pub CardOnly : Type 0
-CardOnly = (card : Card) (b : Built) → SpellsBuilt card b → read_card card ≡ Some b
+-- what the law on sources says: a statement that is read is what the card spells
+abbrev pub CardFound : Type 0
+CardFound = (card : Card) (b : Built) → read_card card ≡ Some b → SpellsBuilt card b
 
-module _ (only : CardOnly) (unit : Option (List ℕ)) where
-  -- the parts of what can be converted of a statement that a card spells
-  built_parts : (card : Card) (a : Action) → is_built_card unit card ≡ true → SpellsBuilt card (action a) → IsBuiltAction unit a
-  built_parts card a built spelled = built_action unit a (subst (λ o. is_built_as unit o ≡ true) (only card (action a) spelled) built)
+-- a list that is written in short lines, and refers to names alone
+pub record ShortCode (code : Code) : Type 0 where
+  pub listed : IsShortCode code
+  pub names : list_all is_name (code_names code) ≡ true
 
-  -- what is written for the statements that cards spell is short where they can be converted
-  code_is_short : (cards : List Card) (code : Code) (last : Place) → list_all (is_built_card unit) cards ≡ true → SpellsCode cards code last → IsShortCode code
-  code_is_short [] code last built s = absurd s
-  code_is_short (card ∷ rest) done last built s = λ cs k left short e. record { printed_short = short_nothing; writable = tt; tail = left_and_here cs k left short e }
-  code_is_short (card ∷ rest) (item label here (simple a) more) last built s = λ cs k left short e.
-      let b = and_parts (is_built_card unit card) (list_all (is_built_card unit) rest) built in
-      let parts = built_parts card a b.0 s.0 in
-      action_and_more (left ++ remarks_at cs k) a (written_list cs (k + 1) [] more) (left_and_here cs k left short e)
-      parts.short (action_is_plain card a s.0 parts.built) (code_is_short rest more last b.1 s.3 cs (k + 1) [] short refl)
-  code_is_short (card ∷ rest) (item label here continue more) last built s = λ cs k left short e.
-      let b = and_parts (is_built_card unit card) (list_all (is_built_card unit) rest) built in
-      code_is_short rest more last b.1 s.3 cs (k + 1) (left ++ remarks_at cs k) short (left_and_here cs k left short e)
+abbrev ShortEnded : Option Ended → Type 0
+ShortEnded ended = IfSome ended (λ r. ShortCode r.0)
 
-  -- the statements that cards spell refer to names alone
-  code_is_named : (cards : List Card) (code : Code) (last : Place) → list_all (is_built_card unit) cards ≡ true → SpellsCode cards code last → list_all is_name (code_names code) ≡ true
-  code_is_named [] code last built s = absurd s
-  code_is_named (card ∷ rest) done last built s = refl
-  code_is_named (card ∷ rest) (item label here (simple a) more) last built s =
+-- nothing is short
+nothing_is_short : ShortCode done
+nothing_is_short = record { listed = λ cs k left short e. record { printed_short = short_nothing; writable = tt; tail = left_and_here cs k left short e }; names = refl }
+
+-- a CONTINUE is left out
+continue_is_short : (label : ℕ) (here : Place) (more : Code) → ShortCode more → ShortCode (item label here continue more)
+continue_is_short label here more rest = record {
+  listed = λ cs k left short e. rest.listed cs (k + 1) (left ++ remarks_at cs k) short (left_and_here cs k left short e);
+  names = rest.names;
+}
+
+module _ (found : CardFound) (unit : Option (List ℕ)) where
+  -- a statement that can be converted, before a list
+  action_is_short : (card : Card) (a : Action) (label : ℕ) (more : Code) → read_card card ≡ Some (action a) → is_built_as unit (Some (action a)) ≡ true → ShortCode more → ShortCode (item label card.place (simple a) more)
+  action_is_short card a label more was built rest =
+      let parts = built_action unit a built in
+      let plain = action_is_plain card a (found card (action a) was) parts.built in
+      record {
+        listed = λ cs k left short e. action_and_more (left ++ remarks_at cs k) a (written_list cs (k + 1) [] more) (left_and_here cs k left short e) parts.short plain (rest.listed cs (k + 1) [] short refl);
+        names = list_all-append is_name (action_names a) (code_names more) ∙ and_from _ _ plain.named rest.names;
+      }
+
+  -- a statement that is read, before a list
+  join_is_short : (card : Card) (s : Built) (rest : List ReadCard) (more : Option Ended) → read_card card ≡ Some s → is_built_as unit (Some s) ≡ true → ShortEnded more → ShortEnded (join_code card.place s rest more)
+  join_is_short card (program x) rest more was built short = tt
+  join_is_short card (action a) rest None was built short = tt
+  join_is_short card (action a) rest (Some r) was built short = action_is_short card a 0 r.0 was built short
+  join_is_short card built.continue rest None was built short = tt
+  join_is_short card built.continue rest (Some r) was built short = continue_is_short 0 card.place r.0 short
+  join_is_short card end_of_unit [] more was built short = nothing_is_short
+  join_is_short card end_of_unit (next ∷ rest) more was built short = tt
+
+  -- the list that is read of cards that can be converted
+  list_is_short : (cards : List Card) → list_all (is_built_card unit) cards ≡ true → ShortEnded (read_code (map read_of cards))
+  list_is_short [] built = tt
+  list_is_short (card ∷ rest) built =
       let b = and_parts (is_built_card unit card) (list_all (is_built_card unit) rest) built in
-      let parts = built_parts card a b.0 s.0 in
-      list_all-append is_name (action_names a) (code_names more)
-      ∙ and_from _ _ (action_is_plain card a s.0 parts.built).named (code_is_named rest more last b.1 s.3)
-  code_is_named (card ∷ rest) (item label here continue more) last built s =
-      code_is_named rest more last (and_parts (is_built_card unit card) (list_all (is_built_card unit) rest) built).1 s.3
+      go (read_card card) refl b.0 (list_is_short rest b.1)
+    where
+      go : (o : Option Built) → read_card card ≡ o → is_built_as unit o ≡ true → ShortEnded (read_code (map read_of rest))
+          → ShortEnded (option_and_then (λ s. join_code card.place s (map read_of rest) (read_code (map read_of rest))) o)
+      go None was built short = tt
+      go (Some s) was built short = join_is_short card s (map read_of rest) (read_code (map read_of rest)) was built short
 
 -- ---- declarations
 
@@ -126,18 +150,27 @@ unit_lines cs first u short s =
     (remarks_are_short _ listed.tail))
     (word_and_name 0 (codes "END PROGRAM ") u.name refl (omega arith) s.named)
 
--- the unit that cards spell is such a unit where they can be converted
-cards_are_unit : CardOnly → (unit : Option (List ℕ)) (cards : List Card) (u : SourceUnit) → list_all (is_built_card unit) cards ≡ true → SpellsUnit cards u → ShortUnit u
-cards_are_unit only unit [] u built s = absurd s
-cards_are_unit only unit (card ∷ rest) u built s =
-    let b = and_parts (is_built_card unit card) (list_all (is_built_card unit) rest) built in
-    record {
-      named = header_is_named card u.name s.0;
-      names = code_is_named only unit rest u.code u.end b.1 s.2;
-      listed = code_is_short only unit rest u.code u.end b.1 s.2;
-    }
+module _ (found : CardFound) (unit : Option (List ℕ)) where
+  -- the unit that is read behind its first card
+  unit_with_is_short : (card : Card) (s : Built) (ended : Option Ended) → read_card card ≡ Some s → ShortEnded ended → IfSome (unit_with card.place s ended) ShortUnit
+  unit_with_is_short card (program x) None was short = tt
+  unit_with_is_short card (program x) (Some r) was short = record { named = header_is_named card x (found card (program x) was); names = short.names; listed = short.listed }
+  unit_with_is_short card (action a) ended was short = tt
+  unit_with_is_short card built.continue ended was short = tt
+  unit_with_is_short card end_of_unit ended was short = tt
 
--- so is the unit that cards spell of which none is refused
-pub unit_is_spelled : CardOnly → (cards : List Card) (u : SourceUnit) → unbuilt_refusals cards ≡ [] → SpellsUnit cards u → ShortUnit u
-unit_is_spelled only cards u none s =
-    cards_are_unit only (program_name (map read_of cards)) cards u (all_built (program_name (map read_of cards)) cards none) s
+  -- the unit that is read of cards that can be converted
+  cards_are_short : (cards : List Card) → list_all (is_built_card unit) cards ≡ true → IfSome (read_unit (map read_of cards)) ShortUnit
+  cards_are_short [] built = tt
+  cards_are_short (card ∷ rest) built =
+      go (read_card card) refl (list_is_short found unit rest (and_parts (is_built_card unit card) (list_all (is_built_card unit) rest) built).1)
+    where
+      go : (o : Option Built) → read_card card ≡ o → ShortEnded (read_code (map read_of rest)) → IfSome (option_and_then (λ s. unit_with card.place s (read_code (map read_of rest))) o) ShortUnit
+      go None was short = tt
+      go (Some s) was short = unit_with_is_short card s (read_code (map read_of rest)) was short
+
+-- so is the unit that is read of a file of which no statement is refused
+pub unit_is_short : CardFound → (cards : List Card) (u : SourceUnit) → unbuilt_refusals cards ≡ [] → read_unit (map read_of cards) ≡ Some u → ShortUnit u
+unit_is_short found cards u none e =
+    let name = program_name (map read_of cards) in
+    subst (λ o. IfSome o ShortUnit) e (cards_are_short found name cards (all_built name cards none))

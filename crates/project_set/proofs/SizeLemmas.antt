@@ -1,13 +1,15 @@
 -- A unit has as many statements as it was read from.
-use Rattle.std.proofs.Common.{◌≡◌, ℕ, suc, ◌+◌, List, [], ◌∷◌, length, Option, Some, None, IfSome, refl, subst, arith}
+use Rattle.std.proofs.Common.{◌≡◌, ℕ, suc, ◌+◌, List, [], ◌∷◌, length, Option, Some, None, IfSome, refl, ap, ◌∙◌, subst, arith}
 use Rattle.std.specs.Option.{option_and_then}
 use Rattle.text_base.specs.declared.refusal.Place.{Place}
-use Rattle.tree77.specs.Plain.{code_of}
-use Rattle.tree77.specs.Spelling.{Built, program, action, continue, end_of_unit}
-use Rattle.tree77.specs.Tree.{SourceUnit}
-use Rattle.tree77.specs.declared.tree.Item77.{Item77}
-use Rattle.parse77.specs.SourceReading.{ReadCard, Ended, join_code, read_code, unit_with, read_unit}
+use Rattle.program77.specs.Plain.{code_of}
+use Rattle.program77.specs.Built.{Built, program, action, continue, end_of_unit}
+use Rattle.program77.specs.Tree.{SourceUnit}
+use Rattle.unit77.specs.declared.tree.Item77.{Item77}
+use Rattle.unit77.specs.Views.{items_of}
+use Rattle.program77.specs.SourceReading.{ReadCard, Ended, join_code, read_code, unit_with, read_unit}
 use Rattle.project_set.specs.Rewrite.{count_of, size_of}
+use Rattle.project_set.proofs.ItemLemmas.{first_of_items}
 
 -- a list that is read has a statement for each that it is read from, but END
 abbrev HasCount : ℕ → Option Ended → Type 0
@@ -47,6 +49,6 @@ unit_size (read ∷ rest) u e = subst (λ o. IfSome o (λ v. size_of v ≡ suc (
     go (Some s) = headed read.place s (length rest) (read_code rest) (list_count rest)
 
 -- how many statements a list has
-pub items_count : (is : List Item77) → count_of (code_of is) ≡ length is
+pub items_count : (is : List Item77) → count_of (code_of (items_of is)) ≡ length is
 items_count [] = refl
-items_count (i ∷ is) = let same = items_count is in omega (arith, same)
+items_count (i ∷ is) = let same = items_count is in let more = ap count_of (first_of_items i is) in omega (arith, same, more)

@@ -2,9 +2,10 @@
 use Rattle.std.proofs.Common.{◌≡◌, ℕ, ◌+◌, List, [], ◌∷◌, ◌++◌, refl, sym, ap, subst}
 use Rattle.text_base.specs.Cards.{Comment, comments}
 use Rattle.text_base.specs.Remarks.{Remark}
-use Rattle.tree77.specs.Tree as source
-use Rattle.tree77.specs.Tree.{SourceUnit, SourceProgram}
-use Rattle.tree77.specs.Source.{IsSource}
+use Rattle.program77.specs.Tree as source
+use Rattle.program77.specs.Tree.{SourceUnit, SourceProgram}
+use Rattle.program77.specs.Plain.{source_unit}
+use Rattle.program77.specs.Source.{IsSource}
 use Rattle.project_set.specs.Rewrite.{comments_from, remarks_at, written_list, written}
 use Rattle.project_set.specs.Skeleton.{Entry, ended, action_entry, code_entries, free_entries, source_skeletons, written_skeletons}
 use Rattle.project_set.proofs.Placing.{one_unit}
@@ -19,4 +20,4 @@ unit_skeletons cs u = ap (λ (es : List Entry). (es ++ ended ∷ []) ∷ []) (li
 
 pub skeletons_kept : (bytes : List ℕ) (p : SourceProgram) → IsSource 0 bytes p → source_skeletons p ≡ written_skeletons (written (comments bytes) p)
 skeletons_kept bytes p s =
-    subst (λ (q : SourceProgram). source_skeletons q ≡ written_skeletons (written (comments bytes) q)) (sym s.whole) (unit_skeletons (comments bytes) s.unit)
+    subst (λ (q : SourceProgram). source_skeletons q ≡ written_skeletons (written (comments bytes) q)) (sym s.whole) (unit_skeletons (comments bytes) (source_unit s.unit))

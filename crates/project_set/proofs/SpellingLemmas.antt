@@ -11,8 +11,7 @@ use Rattle.text_base.specs.Cards.{Card}
 use Rattle.text_base.specs.Trees.{UnaryOp, plus, minus, negation, BinaryOp, Expr, int, bool, text, name, call, substring, unary, binary, paren, Action, assign, stop}
 use Rattle.text_base.specs.Trees as t
 use Rattle.text_base.specs.declared.limits.TheConstants.{GREATEST_INTEGER}
-use Rattle.tree77.specs.Source.{SpellsBuilt}
-use Rattle.tree77.specs.Spelling.{built_of, action, program}
+use Rattle.program77.specs.Built.{SpellsBuilt, built_of, built_simple, action, program}
 use Rattle.tree77.specs.Statements as s
 use Rattle.tree77.specs.Statements.{Statement}
 use Rattle.tree90.specs.Printed.{sign_text, operator_text, expr_text, action_text}
@@ -143,9 +142,15 @@ assignment_is_plain _ e built left right = absurd cc
 pub action_is_plain : (card : Card) (a : Action) → SpellsBuilt card (action a) → is_built_action a ≡ true → PlainAction a
 action_is_plain card a b built = go b.statement b.built (statement_is_sound card.label b.spelled.pieces b.statement [] b.spelled.spelled)
   where
+    -- an assignment to a name
+    assigned : (d x : Expr) → built_simple (s.assign d x) ≡ Some (action a) → is_sound d ≡ true → is_sound x ≡ true → PlainAction a
+    assigned (name v) x e left right =
+        let same : assign (name v) x ≡ a = cc in
+        subst PlainAction same (assignment_is_plain (name v) x (subst (λ b. is_built_action b ≡ true) (sym same) built) left right)
+    assigned _ x e left right = absurd cc
+
     go : (s : Statement) → built_of s ≡ Some (action a) → IsSound s → PlainAction a
-    go (s.simple (s.assign d x)) e sound =
-        let same : assign d x ≡ a = cc in subst PlainAction same (assignment_is_plain d x (subst (λ b. is_built_action b ≡ true) (sym same) built) sound.0 sound.1)
+    go (s.simple (s.assign d x)) e sound = assigned d x e sound.0 sound.1
     go (s.simple (s.stop None)) e sound = let same : stop ≡ a = cc in subst PlainAction same (record { plain = refl; named = refl; writable = writable_stop })
     go (s.simple (s.goto l)) e sound = absurd cc
     go (s.simple (s.computed ls y)) e sound = absurd cc
@@ -178,12 +183,17 @@ action_is_plain card a b built = go b.statement b.built (statement_is_sound card
 pub header_is_named : (card : Card) (x : List ℕ) → SpellsBuilt card (program x) → is_name x ≡ true
 header_is_named card x b = go b.statement b.built (statement_is_sound card.label b.spelled.pieces b.statement [] b.spelled.spelled)
   where
+    -- an assignment is no header
+    assigned : (d y : Expr) → built_simple (s.assign d y) ≡ Some (program x) → ⊥
+    assigned (name v) y e = cc
+    assigned _ y e = cc
+
     go : (s : Statement) → built_of s ≡ Some (program x) → IsSound s → is_name x ≡ true
     go (s.header (s.program y)) e sound = let same : y ≡ x = cc in subst (λ z. is_name z ≡ true) same sound
     go (s.header (s.subroutine f ds)) e sound = absurd cc
     go (s.header (s.function t f ds)) e sound = absurd cc
     go (s.header (s.block_data f)) e sound = absurd cc
-    go (s.simple (s.assign y z)) e sound = absurd cc
+    go (s.simple (s.assign y z)) e sound = absurd (assigned y z e)
     go (s.simple (s.stop None)) e sound = absurd cc
     go (s.simple (s.goto l)) e sound = absurd cc
     go (s.simple (s.computed ls y)) e sound = absurd cc

@@ -1,5 +1,5 @@
 -- The refusals of the statements of a file, one statement after another.
-use Rattle.std.proofs.Common.{◌≡◌, ℕ, ◌+◌, ◌<◌, Bool, true, false, not, cond, List, [], ◌∷◌, ◌++◌, length, map, filter, take, get_or, min, Option, Some, sym, ap, ◌∙◌, arith}
+use Rattle.std.proofs.Common.{◌≡◌, ℕ, suc, ◌+◌, ◌<◌, Bool, true, false, not, cond, List, [], ◌∷◌, ◌++◌, length, map, filter, take, get_or, min, Option, Some, refl, sym, ap, ◌∙◌, arith}
 use Rattle.std.specs.Prelude.{slice_get}
 use Rattle.std.specs.Option.{option_map}
 use Rattle.std.proofs.Math.Seq.{take-length}
@@ -10,9 +10,9 @@ use Rattle.text_base.specs.Cards as source
 use Rattle.text_base.specs.declared.refusal.Refusal.{Refusal}
 use Rattle.card_reader.specs.Deck.{card_of}
 use Rattle.card_reader.specs.declared.card.Card.{Card}
-use Rattle.parse77.specs.SourceReading.{ReadCard, read_card, read_of}
-use Rattle.parse77.specs.Statement.{card_read}
-use Rattle.parse77.specs.declared.statement.ReadStatement.{ReadStatement}
+use Rattle.program77.specs.SourceReading.{ReadCard, read_card, read_of, reading_card}
+use Rattle.unit77.specs.ReadViews.{reading_at, readings_from, readings_of}
+use Rattle.unit77.specs.declared.read.ReadStatement.{ReadStatement}
 use Rattle.project_set.specs.Refusals.{program_name, is_built_as, is_built_card, not_built_at, unbuilt_refusals}
 
 -- the refusals of some statements of a program of this name
@@ -33,7 +33,18 @@ more_of unit cards card =
     let passes : source.Card → Bool = λ c. not (is_built_card unit c) in
     ap (map not_built_at) (filter-append passes cards (card ∷ [])) ∙ map-append not_built_at (filter passes cards) (filter passes (card ∷ []))
 
-module _ (cards : List Card) (statements : List ReadStatement) (same : map card_read statements ≡ map read_of (map card_of cards)) where
+-- what was read of a statement, wherever it stands
+abbrev card_read : ReadStatement → ReadCard
+card_read read = reading_card (reading_at 0 read)
+
+cards_read : (k : ℕ) (statements : List ReadStatement) → map reading_card (readings_from k statements) ≡ map card_read statements
+cards_read k [] = refl
+cards_read k (read ∷ statements) = ap (λ l. card_read read ∷ l) (cards_read (suc k) statements)
+
+module _ (cards : List Card) (statements : List ReadStatement) (as_read : map reading_card (readings_of statements) ≡ map read_of (map card_of cards)) where
+  same : map card_read statements ≡ map read_of (map card_of cards)
+  same = sym (cards_read 0 statements) ∙ as_read
+
   -- what was read of a statement is what it spells
   spelled_at : (n : ℕ) (card : Card) (read : ReadStatement) → n < length cards → n < length statements → card ≡ get_or cards n card → read ≡ get_or statements n read
       → (card_read read).spelled ≡ read_card (card_of card)

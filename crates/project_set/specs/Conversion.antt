@@ -1,8 +1,8 @@
 -- The conversion of the bytes of one file.
 use Rattle.std.specs.Prelude.{◌≡◌, ◌≢◌, ℕ, List, [], Result, Ok, Err}
 use Rattle.text_base.specs.Cards.{comments}
-use Rattle.tree77.specs.Tree.{SourceProgram}
-use Rattle.tree77.specs.Source.{IsSource}
+use Rattle.program77.specs.Tree.{SourceProgram}
+use Rattle.program77.specs.Source.{IsSource}
 use Rattle.tree90.specs.Printed.{printed}
 use Rattle.project_set.specs.MapText.{map_text, map_lines}
 use Rattle.project_set.specs.Refusals.{refusals}

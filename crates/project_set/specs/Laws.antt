@@ -1,7 +1,7 @@
 -- What holds of what is written for a source.
 use Rattle.std.specs.Prelude.{◌≡◌, ℕ, List}
 use Rattle.text_base.specs.Cards.{comments}
-use Rattle.tree77.specs.Tree.{SourceProgram}
+use Rattle.program77.specs.Tree.{SourceProgram}
 use Rattle.tree90.specs.Tree.{FreeProgram}
 use Rattle.tree90.specs.FreeText.{SpellsText}
 use Rattle.tree90.specs.Proper.{IsProper}

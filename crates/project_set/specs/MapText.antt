@@ -1,8 +1,8 @@
 -- The map: where each place of the source's storage stands in the written program.
 use Rattle.std.specs.Prelude.{ℕ, List, [], ◌++◌, codes, decimal, map, flat_map, slice_get, Option, unwrap_or}
 use Rattle.std.specs.Option.{option_map}
-use Rattle.tree77.specs.Tree.{SourceUnit, SourceProgram}
-use Rattle.tree77.specs.Layout.{Kind, integers, logicals, characters, Home, local, Sequence, Layout, variables_from}
+use Rattle.program77.specs.Tree.{SourceUnit, SourceProgram}
+use Rattle.program77.specs.Layout.{Kind, integers, logicals, characters, Home, local, Sequence, Layout, variables_from}
 
 -- A line: places of a sequence, from the first on, seen with a kind, stand in an object of a written unit,
 -- from a place on that is counted from 1.

@@ -3,9 +3,9 @@ use Rattle.std.specs.Prelude.{◌≡◌, ℕ, ℤ, ◌+◌, ◌-◌, ◌<◌, �
 use Rattle.std.specs.Option.{option_and_then}
 use Rattle.text_base.specs.Values.{Held, holds_integer, holds_logical}
 use Rattle.text_base.specs.Runs.{Final, going, ended, fault}
-use Rattle.tree77.specs.Tree.{SourceProgram}
-use Rattle.tree77.specs.Layout.{Kind, integers, logicals, characters, Sequence, Entity, Layout, layout_of, numeric_place, text_place}
-use Rattle.tree77.specs.Meaning.{Store, run77}
+use Rattle.program77.specs.Tree.{SourceProgram}
+use Rattle.program77.specs.Layout.{Kind, integers, logicals, characters, Sequence, Entity, Layout, layout_of, numeric_place, text_place}
+use Rattle.program77.specs.Meaning.{Store, run77}
 use Rattle.tree90.specs.Tree.{Declared, integer_object, FreeProgram}
 use Rattle.tree90.specs.Proper.{declared_name}
 use Rattle.tree90.specs.Meaning.{Objects, object_integer, object_logical, object_byte, declared_in, IsStart, run90}

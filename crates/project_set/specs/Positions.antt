@@ -2,8 +2,8 @@
 use Rattle.std.specs.Prelude.{ℕ, zero, suc, ◌+◌, ◌-◌, nat_lt, List, [], ◌∷◌, ◌++◌, length, map, if◌then◌else◌}
 use Rattle.text_base.specs.Cards.{comments}
 use Rattle.text_base.specs.Remarks.{Remark}
-use Rattle.tree77.specs.Tree as source
-use Rattle.tree77.specs.Tree.{SourceUnit, SourceProgram}
+use Rattle.program77.specs.Tree as source
+use Rattle.program77.specs.Tree.{SourceUnit, SourceProgram}
 use Rattle.tree90.specs.Tree as free
 use Rattle.tree90.specs.Tree.{FreeUnit, FreeProgram}
 use Rattle.project_set.specs.Rewrite.{remark_of, size_of}

@@ -1,5 +1,5 @@
 -- What is refused of a file.
-use Rattle.std.specs.Prelude.{ℕ, ◌+◌, Bool, true, false, not, ◌&&◌, nat_le, List, [], ◌∷◌, length, take, map, flat_map, filter, Option, Some, None}
+use Rattle.std.specs.Prelude.{ℕ, ◌+◌, Bool, true, false, not, ◌&&◌, nat_le, List, [], ◌∷◌, length, take, map, filter, Option, Some, None}
 use Rattle.std.specs.List.{list_all}
 use Rattle.std.specs.Option.{option_and_then}
 use Rattle.text_base.specs.Cards.{Card, cards}
@@ -11,12 +11,12 @@ use Rattle.text_base.specs.Trees.{Expr, int, name, unary, binary, Action, assign
 use Rattle.text_base.specs.declared.limits.TheConstants.{LONGEST_WRITTEN, MOST_SHOWN}
 use Rattle.text_base.specs.declared.refusal.Refusal.{Refusal}
 use Rattle.text_base.specs.declared.refusal.Cause.TheVariants.{NotBuilt}
-use Rattle.tree77.specs.Tree.{SourceUnit}
-use Rattle.tree77.specs.Spelling.{Built, program, action, continue, end_of_unit}
-use Rattle.tree77.specs.Typing.{is_integer_name, is_variable}
-use Rattle.parse77.specs.Unit.{header_name}
-use Rattle.parse77.specs.SourceReading.{ReadCard, read_card, file_statements, read_of, read_unit}
-use Rattle.parse77.specs.Statement.{refusals_of}
+use Rattle.program77.specs.Tree.{SourceUnit}
+use Rattle.program77.specs.Built.{Built, program, action, continue, end_of_unit}
+use Rattle.program77.specs.Typing.{is_integer_name, is_variable}
+use Rattle.program77.specs.SourceReading.{header_name}
+use Rattle.program77.specs.SourceReading.{ReadCard, read_card, file_statements, read_of, read_unit}
+use Rattle.parse77.specs.Statement.{deck_refusals}
 use Rattle.tree90.specs.Tree.{simple}
 use Rattle.tree90.specs.Printed.{stmt_text}
 use Rattle.tree90.specs.Proper.{is_sign, is_additive}
@@ -77,10 +77,6 @@ not_built_at card = record { place = card.place; cause = NotBuilt; name = take M
 
 -- ---- all statements
 
--- the refusals of the statements of a file that have no spelling, or of which a part is refused: one each
-abbrev pub statement_refusals : List Card → List Refusal
-statement_refusals cards = flat_map refusals_of cards
-
 -- the refusals of the statements that aren't converted yet
 abbrev pub unbuilt_refusals : List Card → List Refusal
 unbuilt_refusals cards = map not_built_at (filter (λ card. not (is_built_card (program_name (map read_of cards)) card)) cards)
@@ -95,10 +91,10 @@ abbrev pub first_of : List Refusal → List Refusal → List Refusal
 first_of [] later = later
 first_of (first ∷ rest) later = first ∷ rest
 
--- what is refused of the statements of a file: of each by itself; where there is nothing, of those that aren't converted yet;
--- and where there is nothing, of them as a program
+-- what is refused of the statements of a file: of them as units; where there is nothing, of those that aren't converted yet; and
+-- where there is nothing, of them as one main program
 abbrev pub source_refusals : List Card → Option SourceUnit → List Refusal
-source_refusals cards unit = first_of (statement_refusals cards) (first_of (unbuilt_refusals cards) (unit_refusals 0 unit))
+source_refusals cards unit = first_of (deck_refusals cards) (first_of (unbuilt_refusals cards) (unit_refusals 0 unit))
 
 -- What is refused of a file: of its size and its lines; and where there is nothing, of its statements.
 abbrev pub refusals : List ℕ → List Refusal

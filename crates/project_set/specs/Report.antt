@@ -1,7 +1,7 @@
 -- The report: what stands in the source, in numbers.
 use Rattle.std.specs.Prelude.{ℕ, List, ◌++◌, length, codes, decimal}
 use Rattle.text_base.specs.Lines.{cut_lines}
-use Rattle.tree77.specs.Tree.{SourceProgram}
+use Rattle.program77.specs.Tree.{SourceProgram}
 
 -- the numbers of a report: source units, webs of jumps, webs whose jumps are kept, array segments, and statement lines
 -- with something after column 72

@@ -2,9 +2,9 @@
 use Rattle.std.specs.Prelude.{ℕ, ◌+◌, ◌==◌, nat_le, List, [], ◌∷◌, ◌++◌, map, filter}
 use Rattle.text_base.specs.Cards.{Comment}
 use Rattle.text_base.specs.Remarks.{Remark}
-use Rattle.tree77.specs.Tree as source
-use Rattle.tree77.specs.Tree.{SourceUnit, SourceProgram}
-use Rattle.tree77.specs.Typing.{variables}
+use Rattle.program77.specs.Tree as source
+use Rattle.program77.specs.Tree.{SourceUnit, SourceProgram}
+use Rattle.program77.specs.Typing.{variables}
 use Rattle.tree90.specs.Tree as free
 use Rattle.tree90.specs.Tree.{Stmt, integer_object, FreeUnit, FreeProgram}
 use Rattle.tree90.specs.Plain.{CodeAndTail, with_item}

@@ -1,8 +1,8 @@
 -- The skeleton of a unit: what it does, in the order of the text, without the names of its variables.
 use Rattle.std.specs.Prelude.{ℕ, ℤ, Bool, List, [], ◌∷◌, ◌++◌, map}
 use Rattle.text_base.specs.Trees.{UnaryOp, BinaryOp, Expr, int, bool, text, name, call, substring, unary, binary, paren, Action, assign, stop}
-use Rattle.tree77.specs.Tree as source
-use Rattle.tree77.specs.Tree.{SourceUnit, SourceProgram}
+use Rattle.program77.specs.Tree as source
+use Rattle.program77.specs.Tree.{SourceUnit, SourceProgram}
 use Rattle.tree90.specs.Tree as free
 use Rattle.tree90.specs.Tree.{FreeUnit, FreeProgram}
 

@@ -4,31 +4,33 @@ ghost use Rattle.text_base.specs.Cards.{Comment, cards, comments};
 ghost use Rattle.text_base.specs.Lines.{cut_lines};
 ghost use Rattle.text_base.specs.LineRefusals.{card_refusals};
 ghost use Rattle.card_reader.specs.Deck.{card_of, deck_comments};
-ghost use Rattle.tree77.specs.Plain.{unit_of};
-ghost use Rattle.parse77.specs.SourceReading.{file_statements};
-ghost use Rattle.parse77.specs.Statement.{card_read};
+ghost use Rattle.program77.specs.Plain.{source_of};
+ghost use Rattle.parse77.specs.Statement.{file_readings};
+ghost use Rattle.unit77.specs.ReadViews.{readings_of};
 ghost use Rattle.project_set.specs.Comments.{ArePlaced};
 ghost use Rattle.tree90.specs.Printed.{printed};
 ghost use Rattle.project_set.specs.Conversion.{IsConvertible, IsConversion, RefusesWith, program_map};
 ghost use Rattle.project_set.specs.Laws.{IsFaithful};
 ghost use Rattle.project_set.specs.Report.{report_text};
-ghost use Rattle.project_set.specs.Refusals.{statement_refusals, unbuilt_refusals};
+ghost use Rattle.parse77.specs.Statement.{deck_refusals};
+ghost use Rattle.project_set.specs.Refusals.{unbuilt_refusals};
 ghost use Rattle.project_set.specs.Rewrite.{written};
 
 use crate::comments::Comments;
 use crate::laws::conversions_do_the_same;
 use crate::map::map_of;
-use crate::refusals::{statement_refusals, unbuilt_refusals};
+use crate::refusals::unbuilt_refusals;
 use crate::report::{Counts, report};
 use crate::rewrite::rewritten;
 use crate::variables::variables;
 use card_reader::{CardsError, Deck, read_cards};
 use free_printer::print;
-use parse77::{Statements, main_program, read_statements, statements_are_spelled};
+use parse77::{ParseError, files_are_units, read_accepted};
+use program77::{main_program, sources_are_read, unit_name};
 use std::alloc::{AllocError, Global};
 use text_base::{Bytes, Refusals, not_built};
 use thiserror::Error;
-use tree77::Unit77;
+use unit77::{ReadStatement, Unit77, nest_units};
 
 /// The texts that are written for one file.
 #[derive(Debug, Drop)]
@@ -78,28 +80,44 @@ fn read_deck(alloc: Global, bytes: &[u8]) -> Result<Deck, ConvertError>
 /// how many of its lines are cut off at column 72.
 #[derive(Drop)]
 struct Parts {
-    statements: Statements,
+    statements: Vec<ReadStatement>,
     comments: Comments,
     cut: u32,
+}
+
+// The statements of a file of which none is refused.
+fn read_deck_statements(
+    alloc: Global,
+    deck: &Deck,
+    bytes: &[u8],
+) -> Result<Vec<ReadStatement>, ConvertError>
+    requires cards { map card_of deck.now.statements ≡ cards 0 bytes.now }
+    requires accepted { card_refusals 0 bytes.now ≡ [] }
+    ensures readings { IfOk result (λ made. readings_of made.items ≡ file_readings (cards 0 bytes.now)) }
+    ensures accepted { OnOk result (deck_refusals (cards 0 bytes.now) ≡ []) }
+    ensures refused { RefusesWith bytes.now result }
+{
+    match read_accepted(alloc, deck) {
+        Ok(statements) => Ok(statements),
+        Err(ParseError::Refused(refusals)) => Err(ConvertError::Refused(refusals)),
+        Err(ParseError::Memory) => Err(ConvertError::Memory),
+    }
 }
 
 // The parts of a file, of which the characters of the statements are kept no longer. What is refused of its lines or of its
 // statements is refused.
 fn read_parts(alloc: Global, bytes: &[u8]) -> Result<Parts, ConvertError>
-    ensures statements { IfOk result (λ parts. map card_read parts.statements ≡ file_statements 0 bytes.now) }
+    ensures statements { IfOk result (λ parts. readings_of parts.statements.items ≡ file_readings (cards 0 bytes.now)) }
     ensures comments { IfOk result (λ parts. 2 ≤ length (cards 0 bytes.now) → ArePlaced (comments bytes.now) (length (cards 0 bytes.now) - 1) parts.comments) }
     ensures cut { IfOk result (λ parts. parts.cut ≡ cut_lines bytes.now) }
     ensures accepted { OnOk result (card_refusals 0 bytes.now ≡ []) }
-    ensures statements_accepted { OnOk result (statement_refusals (cards 0 bytes.now) ≡ []) }
+    ensures statements_accepted { OnOk result (deck_refusals (cards 0 bytes.now) ≡ []) }
     ensures built { OnOk result (unbuilt_refusals (cards 0 bytes.now) ≡ []) }
     ensures refused { RefusesWith bytes.now result }
 {
+    sources_are_read();
     let deck = read_deck(alloc, bytes)?;
-    let statements = read_statements(alloc, &deck)?;
-    let refused = statement_refusals(alloc, statements.as_slice())?;
-    if !refused.is_empty() {
-        return Err(ConvertError::Refused(refused));
-    }
+    let statements = read_deck_statements(alloc, &deck, bytes)?;
     let unbuilt = unbuilt_refusals(alloc, deck.statements(), statements.as_slice())?;
     if !unbuilt.is_empty() {
         return Err(ConvertError::Refused(unbuilt));
@@ -121,17 +139,19 @@ struct Source {
 }
 
 // The program that the bytes are the source of, with their comments. What is refused is refused phase by phase: of the
-// lines, of the statements by themselves, of those that aren't converted yet, and of the statements as a program.
+// lines, of the statements and their units, of those that aren't converted yet, and of the statements as one main program.
 fn read_source(alloc: Global, bytes: &[u8]) -> Result<Source, ConvertError>
-    ensures found { IfOk result (λ s. IsConvertible bytes.now (record { units = unit_of s.unit ∷ [] })) }
+    ensures found { IfOk result (λ s. IsConvertible bytes.now (record { units = source_of s.unit ∷ [] })) }
     ensures counted { IfOk result (λ s. length s.comments.before ≡ length s.unit.items + 1) }
     ensures comments { IfOk result (λ s. ArePlaced (comments bytes.now) (length s.comments.before) s.comments) }
     ensures cut { IfOk result (λ s. s.cut ≡ cut_lines bytes.now) }
     ensures refused { RefusesWith bytes.now result }
 {
-    statements_are_spelled();
+    files_are_units();
+    sources_are_read();
     let parts = read_parts(alloc, bytes)?;
-    let Some(unit) = main_program(alloc, parts.statements)? else {
+    let units = nest_units(alloc, parts.statements)?;
+    let Some(unit) = main_program(units) else {
         return Err(ConvertError::Refused(not_built(alloc, 0)?));
     };
     Ok(Source {
@@ -144,8 +164,8 @@ fn read_source(alloc: Global, bytes: &[u8]) -> Result<Source, ConvertError>
 // The texts of a program. Its expressions are moved to the written program.
 fn written_texts(alloc: Global, source: Source) -> Result<Outputs, AllocError>
     requires { length source.comments.before ≡ length source.unit.items + 1 }
-    ensures text { IfOk result (λ o. (cs : List Comment) → ArePlaced cs (length source.comments.before) source.comments → o.text ≡ printed (written cs (record { units = unit_of source.unit ∷ [] }))) }
-    ensures map { IfOk result (λ o. o.map ≡ program_map (record { units = unit_of source.unit ∷ [] })) }
+    ensures text { IfOk result (λ o. (cs : List Comment) → ArePlaced cs (length source.comments.before) source.comments → o.text ≡ printed (written cs (record { units = source_of source.unit ∷ [] }))) }
+    ensures map { IfOk result (λ o. o.map ≡ program_map (record { units = source_of source.unit ∷ [] })) }
     ensures report { IfOk result (λ o. o.report ≡ report_text (record { units = 1; webs = 0; kept = 0; arrays = 0; cut = source.cut })) }
 {
     let Source {
@@ -154,7 +174,7 @@ fn written_texts(alloc: Global, source: Source) -> Result<Outputs, AllocError>
         cut,
     } = source;
     let variables = variables(alloc, &unit)?;
-    let map = map_of(alloc, &unit.name, variables.as_slice())?;
+    let map = map_of(alloc, &unit_name(&unit), variables.as_slice())?;
     let program = rewritten(alloc, unit, variables.as_slice(), comments)?;
     Ok(Outputs {
         text: print(alloc, &program)?,
@@ -168,8 +188,8 @@ fn written_texts(alloc: Global, source: Source) -> Result<Outputs, AllocError>
 /// In: its bytes.
 ///
 /// Out: the text of the program, the map of its storage, and the report. Where something is refused of the bytes, `Refused` with
-/// all refusals of the first phase that has any: of the lines, of the statements by themselves, of those that aren't converted yet,
-/// of them as a program. `Memory` may come in place of either where memory is wanted, and tells nothing of the file.
+/// all refusals of the first phase that has any: of the lines, of the statements and the units that they are, of statements that
+/// aren't converted yet, of them as one main program. `Memory` may come in place of either where memory is wanted, and tells nothing of the file.
 pub fn convert(alloc: Global, bytes: &[u8]) -> Result<Outputs, ConvertError>
     ensures converts { IfOk result (λ o. IsConversion bytes.now o.text o.map o.report) }
     ensures headline { IfOk result (λ o. IsFaithful bytes.now o.text o.map) }

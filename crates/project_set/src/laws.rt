@@ -2,6 +2,7 @@
 ghost use Rattle.project_set.specs.Laws.{WrittenIsProper, ConversionsDoTheSame};
 
 use parse77::statements_are_spelled;
+use program77::sources_are_read;
 use tree90::{one_reading, printed_is_read};
 
 /// What is written for a source that is converted is a proper program: one main program whose names are declared once
@@ -11,6 +12,7 @@ pub fn written_is_proper()
     ensures { WrittenIsProper }
 {
     statements_are_spelled();
+    sources_are_read();
 }
 
 /// The text of a source that is converted has exactly one reading, which is a proper program. It does what the source does,

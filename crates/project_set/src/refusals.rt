@@ -1,28 +1,28 @@
 // What is refused of the statements of a file.
-ghost use Rattle.std.specs.Prelude.{◌≡◌, ◌&&◌, ◌∷◌, ◌++◌, [], map, flat_map, IfOk, OnOk};
+ghost use Rattle.std.specs.Prelude.{ℕ, ◌≡◌, ◌&&◌, ◌∷◌, ◌++◌, [], map, flat_map, IfOk, OnOk};
 ghost use Rattle.std.specs.List.{list_all};
 ghost use Rattle.std.specs.Option.{option_and_then};
 ghost use Rattle.text_base.specs.Names.{expr_names};
 ghost use Rattle.text_base.specs.Trees.{assign, name};
 ghost use Rattle.card_reader.specs.Deck.{card_of};
 ghost use Rattle.expr_tree.specs.Plain.{expr_of, unary_of, binary_of};
-ghost use Rattle.tree77.specs.Spelling.{action, built_of, built_simple};
+ghost use Rattle.program77.specs.Built.{action, built_of, built_simple};
 ghost use Rattle.tree77.specs.StatementPlain.{header_of, simple_of, statement_of};
 ghost use Rattle.tree77.specs.Statements as s;
-ghost use Rattle.tree77.specs.Typing.{is_integer_name, is_variable};
-ghost use Rattle.parse77.specs.SourceReading.{read_of};
-ghost use Rattle.parse77.specs.Statement.{card_read, refusals_in};
-ghost use Rattle.parse77.specs.Unit.{header_name};
+ghost use Rattle.program77.specs.Typing.{is_integer_name, is_variable};
+ghost use Rattle.unit77.specs.ReadViews.{reading_at, readings_of};
+ghost use Rattle.program77.specs.SourceReading.{header_name, read_of, reading_card};
 ghost use Rattle.tree90.specs.Proper.{is_sign, is_additive};
 ghost use Rattle.project_set.specs.Refusals.{program_name, is_free_name, is_built_operand, is_built, is_built_statement, is_built_as, not_built_at, unbuilt_refusals};
 
 use card_reader::Card;
 use free_printer::is_short_assignment;
-use parse77::{ReadStatement, StatementOutcome, shown};
+use parse77::shown;
 use sqlite_items::Items;
 use std::alloc::{AllocError, Global};
-use text_base::{Bytes, Cause, Name, Refusal, Refusals};
+use text_base::{Cause, Name, Refusal, Refusals};
 use tree77::{BinaryOp, Expr, Header77, Statement77, Stmt77, UnaryOp};
+use unit77::ReadStatement;
 
 // The name that a header gives to a program, if it is a PROGRAM statement.
 fn header_program(header: &Header77) -> Option<Name>
@@ -57,15 +57,15 @@ fn statement_program(statement: &Statement77) -> Option<Name>
 
 // The name that the first statement gives to the program, if it gives one.
 fn program_name(statements: &[ReadStatement]) -> Option<Name>
-    ensures { result ≡ program_name (map card_read statements.now) }
+    ensures { result ≡ program_name (map reading_card (readings_of statements.now)) }
 {
     let first = statements.first()?;
-    if first.label != 0 {
+    if first.label != 0 || first.refusal.is_some() {
         return None;
     }
-    match &first.outcome {
-        StatementOutcome::Accepted(statement) => statement_program(statement),
-        StatementOutcome::Refused(_) => None,
+    match &first.statement {
+        Some(statement) => statement_program(statement),
+        None => None,
     }
 }
 
@@ -166,7 +166,7 @@ fn is_variable_built(unit: &Option<Name>, variable: &Name, value: &Expr) -> bool
 // Whether the assignment can be converted in a program of this name.
 #[tactic(auto, using(expr_tree::proofs::Equations::expr_equations))]
 fn is_assignment_built(unit: &Option<Name>, variable: &Expr, value: &Expr) -> bool
-    ensures { result ≡ is_built_statement unit.now (action (assign (expr_of variable.now) (expr_of value.now))) }
+    ensures { result ≡ is_built_as unit.now (built_simple (s.assign (expr_of variable.now) (expr_of value.now))) }
 {
     match variable {
         Expr::Name(name) => is_variable_built(unit, name, value),
@@ -237,60 +237,15 @@ fn is_statement_built(unit: &Option<Name>, statement: &Statement77) -> bool
 
 // Whether a statement that was read has no label, and can be converted in a program of this name.
 fn is_built(unit: &Option<Name>, read: &ReadStatement) -> bool
-    ensures { result ≡ is_built_as unit.now (card_read read.now).spelled }
+    ensures { (n : ℕ) → result ≡ is_built_as unit.now (reading_card (reading_at n read.now)).spelled }
 {
-    if read.label != 0 {
+    if read.label != 0 || read.refusal.is_some() {
         return false;
     }
-    match &read.outcome {
-        StatementOutcome::Accepted(statement) => is_statement_built(unit, statement),
-        StatementOutcome::Refused(_) => false,
+    match &read.statement {
+        Some(statement) => is_statement_built(unit, statement),
+        None => false,
     }
-}
-
-// A copy of a refusal.
-fn copy_of(alloc: Global, refusal: &Refusal) -> Result<Refusal, AllocError>
-    ensures { IfOk result (λ made. made ≡ refusal.now) }
-{
-    let name = Bytes::from_slice(alloc, refusal.name.as_slice())?;
-    Ok(Refusal {
-        place: refusal.place,
-        cause: refusal.cause,
-        name,
-    })
-}
-
-// Appends a copy of the refusal of a statement, if it has one.
-fn add_refusal(
-    alloc: Global,
-    refusals: &mut Refusals,
-    outcome: &StatementOutcome,
-) -> Result<(), AllocError>
-    ensures { OnOk result (refusals.new ≡ refusals.old ++ refusals_in outcome.now) }
-{
-    match outcome {
-        StatementOutcome::Accepted(_) => {}
-        StatementOutcome::Refused(refusal) => refusals.push(copy_of(alloc, refusal)?)?,
-    }
-    Ok(())
-}
-
-/// The refusals of statements that have no spelling, or of which a part is refused, in their order.
-///
-/// In: the statements of a file as they were read.
-///
-/// Out: a copy of the refusal of each that has one. It fails for want of memory alone.
-pub fn statement_refusals(
-    alloc: Global,
-    statements: &[ReadStatement],
-) -> Result<Refusals, AllocError>
-    ensures { IfOk result (λ list. list ≡ flat_map (λ r. refusals_in r.outcome) statements.now) }
-{
-    let mut refusals = Items::new(alloc);
-    for read in statements {
-        add_refusal(alloc, &mut refusals, &read.outcome)?;
-    }
-    Ok(refusals)
 }
 
 // Appends the refusal of a card that can't be converted, which names its first characters.
@@ -316,7 +271,7 @@ pub fn unbuilt_refusals(
     cards: &[Card],
     statements: &[ReadStatement],
 ) -> Result<Refusals, AllocError>
-    requires { map card_read statements.now ≡ map read_of (map card_of cards.now) }
+    requires { map reading_card (readings_of statements.now) ≡ map read_of (map card_of cards.now) }
     ensures { IfOk result (λ list. list ≡ unbuilt_refusals (map card_of cards.now)) }
 {
     let unit = program_name(statements);

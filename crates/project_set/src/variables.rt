@@ -3,15 +3,19 @@ ghost use Rattle.std.specs.Prelude.{◌≡◌, map, flat_map, IfOk, OnOk};
 ghost use Rattle.std.specs.Option.{option_map};
 ghost use Rattle.text_base.specs.Names.{expr_names, exprs_names, bound_names};
 ghost use Rattle.expr_tree.specs.Plain.{expr_of, exprs_of, bound_of};
-ghost use Rattle.tree77.specs.Typing.{variables, stmt_names, code_names};
-ghost use Rattle.tree77.specs.Plain.{stmt_of, code_of, unit_of};
+ghost use Rattle.program77.specs.Typing.{variables, stmt_names, code_names};
+ghost use Rattle.program77.specs.Plain.{stmt_of, first_stmt, code_of, source_of};
+ghost use Rattle.tree77.specs.StatementPlain.{simple_of};
+ghost use Rattle.tree77.specs.Statements as plain;
+ghost use Rattle.unit77.specs.Views.{item_of, items_of};
 ghost use Rattle.project_set.specs.Variables.{with_name, with_names, IsInStep};
 
 use indexmap::IndexSet;
 use sqlite_items::{Boxed, Items};
 use std::alloc::{AllocError, Global};
 use text_base::Name;
-use tree77::{Body77, Expr, Item77, Unit77};
+use tree77::{Expr, Stmt77};
+use unit77::{Body77, Item77, Unit77};
 
 /// Names, each once, in the order in which they were added first. A set of their characters finds them again.
 #[derive(Drop)]
@@ -24,7 +28,7 @@ struct Names<'a> {
 /// memory alone.
 #[tactic(auto, using(crate::proofs::NameLemmas::seen))]
 pub fn variables(alloc: Global, unit: &Unit77) -> Result<Items<Name>, AllocError>
-    ensures { IfOk result (λ names. names ≡ variables (unit_of unit.now)) }
+    ensures { IfOk result (λ names. names ≡ variables (source_of unit.now)) }
 {
     let mut names = Names {
         characters: IndexSet::new(alloc),
@@ -36,27 +40,42 @@ pub fn variables(alloc: Global, unit: &Unit77) -> Result<Items<Name>, AllocError
 
 fn add_items<'a>(names: &mut Names<'a>, items: &'a [Item77]) -> Result<(), AllocError>
     requires { IsInStep names.old.characters names.old.items }
-    ensures added { OnOk result (names.new.items ≡ with_names names.old.items (code_names (code_of items.now))) }
+    ensures added { OnOk result (names.new.items ≡ with_names names.old.items (code_names (code_of (items_of items.now)))) }
     ensures in_step { OnOk result (IsInStep names.new.characters names.new.items) }
 {
     for item in items {
-        add_body(names, &item.body)?;
+        add_item(names, item)?;
     }
     Ok(())
 }
 
-fn add_body<'a>(names: &mut Names<'a>, body: &'a Body77) -> Result<(), AllocError>
+// The names of an item that is converted; of another none.
+#[tactic(auto, using(crate::proofs::ItemLemmas::first_bodies))]
+fn add_item<'a>(names: &mut Names<'a>, item: &'a Item77) -> Result<(), AllocError>
     requires { IsInStep names.old.characters names.old.items }
-    ensures added { OnOk result (names.new.items ≡ with_names names.old.items (stmt_names (stmt_of body.now))) }
+    ensures added { OnOk result (names.new.items ≡ with_names names.old.items (stmt_names (first_stmt (item_of item.now)))) }
     ensures in_step { OnOk result (IsInStep names.new.characters names.new.items) }
 {
-    match body {
-        Body77::Assign(variable, value) => {
+    match &item.body {
+        Body77::Simple(statement) => add_simple(names, statement),
+        Body77::Guarded(_, _) => Ok(()),
+        Body77::If(_, _) => Ok(()),
+        Body77::Do(_, _) => Ok(()),
+    }
+}
+
+// The names of a statement that is converted; of another none.
+fn add_simple<'a>(names: &mut Names<'a>, statement: &'a Stmt77) -> Result<(), AllocError>
+    requires { IsInStep names.old.characters names.old.items }
+    ensures added { OnOk result (names.new.items ≡ with_names names.old.items (stmt_names (stmt_of (plain.simple (simple_of statement.now))))) }
+    ensures in_step { OnOk result (IsInStep names.new.characters names.new.items) }
+{
+    match statement {
+        Stmt77::Assign(variable, value) => {
             add_expr(names, variable)?;
             add_expr(names, value)
         }
-        Body77::Continue => Ok(()),
-        Body77::Stop => Ok(()),
+        _ => Ok(()),
     }
 }
 

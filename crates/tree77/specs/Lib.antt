@@ -1,15 +1,10 @@
-pub mod Tree
-pub mod Plain
 pub mod Kinds
 pub mod Tokens
 pub mod Expressions
 pub mod Lexemes
 pub mod Stops
 pub mod Spelling
-pub mod Typing
-pub mod Source
-pub mod Layout
-pub mod Meaning
+pub mod CardSpelling
 pub mod Statements
 pub mod Forms
 pub mod FormWords

@@ -4,8 +4,7 @@ use Rattle.std.specs.Str.{bytes_eq}
 use Rattle.text_base.specs.Formats as format
 use Rattle.text_base.specs.Formats.{FormatItems, SpellsFormat, IsRefusedFormat}
 use Rattle.text_base.specs.Pieces.{Piece, plain, piece_text}
-use Rattle.text_base.specs.Trees as t
-use Rattle.text_base.specs.Trees.{Expr, Action}
+use Rattle.text_base.specs.Trees.{Expr}
 use Rattle.text_base.specs.declared.limits.TheConstants.{MOST_SHOWN}
 use Rattle.text_base.specs.declared.refusal.Cause.TheVariants.{NotAStatement}
 use Rattle.tree77.specs.Forms.{one, text, ahead, behind_group, Matches}
@@ -120,9 +119,26 @@ shown_word word = if bytes_eq word (codes "DOWHILE") then codes "WHILE" else (if
 abbrev pub refused_actions : List (List ℕ)
 refused_actions = codes "PAUSE" ∷ codes "ASSIGN" ∷ codes "INQUIRE" ∷ codes "BACKSPACE" ∷ codes "ENDFILE" ∷ []
 
--- what stands for such a statement: CONTINUE where a logical IF may have it, else END, which it may not have
+-- declarations of other types, and NAMELIST; and those that may stand anywhere in a unit
+abbrev pub refused_declarations : List (List ℕ)
+refused_declarations = codes "REAL" ∷ codes "DOUBLEPRECISION" ∷ codes "COMPLEX" ∷ codes "NAMELIST" ∷ []
+
+abbrev pub refused_anywhere : List (List ℕ)
+refused_anywhere = codes "ENTRY" ∷ codes "INCLUDE" ∷ []
+
+-- What stands for such a statement: one of its sort, with nothing in it; END for DO WHILE and END DO, which no other statement
+-- stands for. A logical IF may have none of them but those of the first list.
 abbrev pub stand_in : List ℕ → Statement
-stand_in word = if is_among refused_actions word then simple stmt.continue else end
+stand_in word =
+    if is_among refused_actions word then simple stmt.continue
+    else (if is_among refused_declarations word then declared (stmt.typed stmt.integer_type [])
+    else (if is_among refused_anywhere word then declared (stmt.data_ [])
+    else (if bytes_eq word (codes "IMPLICITNONE") then declared (stmt.implicit [])
+    else end)))
+
+-- what stands for a FUNCTION statement whose type is refused: its name isn't read, and a unit without one is shown as MAIN
+abbrev pub unread_function : Statement
+unread_function = header (stmt.function None (codes "MAIN") [])
 
 -- ---- statements but logical IF
 
@@ -141,7 +157,7 @@ IsSpelledAs kind.loop pieces s ps = IsBehind (codes "DO") sort.do_sort pieces s 
 IsSpelledAs kind.assign pieces s ps = HasForm sort.assignment_sort pieces s ps
 IsSpelledAs (kind.keyword word) pieces s ps = IsKeywordStatement word pieces s ps
 IsSpelledAs (kind.unsupported word) pieces s ps = (s ≡ stand_in word) × (ps ≡ unsupported (shown_word word) ∷ [])
-IsSpelledAs (kind.refused_function type) pieces s ps = (s ≡ end) × (ps ≡ unsupported type ∷ [])
+IsSpelledAs (kind.refused_function type) pieces s ps = (s ≡ unread_function) × (ps ≡ unsupported type ∷ [])
 IsSpelledAs kind.nothing pieces s ps = ⊥
 
 pub record IsPlainStatement (label : ℕ) (pieces : List Piece) (s : Statement) (ps : List Part) : Type 0 where
@@ -190,24 +206,3 @@ SpellsStatement label pieces s = IsWideStatement label pieces s []
 pub data IsRefusedStatement (label : ℕ) (pieces : List Piece) (p : Part) : Type 0 where
   refused_whole : ((s : Statement) (ps : List Part) → IsWideStatement label pieces s ps → ⊥) → p ≡ record { cause = NotAStatement; shown = take MOST_SHOWN (flat_map piece_text pieces) } → IsRefusedStatement label pieces p
   refused_part : (s : Statement) (ps : List Part) → IsWideStatement label pieces s ps → first_lowest ps ≡ Some p → IsRefusedStatement label pieces p
-
--- ---- statements that are converted
-
--- a statement by itself, of those that are converted
-pub data Built : Type 0 where
-  program : List ℕ → Built
-  action : Action → Built
-  continue : Built
-  end_of_unit : Built
-
-abbrev pub built_simple : Simple → Option Built
-built_simple (stmt.assign d x) = Some (action (t.assign d x))
-built_simple stmt.continue = Some continue
-built_simple (stmt.stop None) = Some (action t.stop)
-built_simple _ = None
-
-abbrev pub built_of : Statement → Option Built
-built_of (header (stmt.program x)) = Some (program x)
-built_of (simple a) = built_simple a
-built_of end = Some end_of_unit
-built_of _ = None

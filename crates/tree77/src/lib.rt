@@ -1,8 +1,7 @@
-//! FORTRAN 77 programs as trees, with the definitions of their spelling, their storage and their meaning.
+//! FORTRAN 77 statements as trees, with the definitions of their spelling.
 #![tactic(auto)]
 
 mod statement;
-mod tree;
 
 pub use expr_tree::{BinaryOp, Expr, Exprs, UnaryOp};
 pub use statement::{
@@ -11,4 +10,3 @@ pub use statement::{
     Labels77, Length77, Letters77, Listed77, Listeds77, Names77, Range77, ReadBy77, Saved77,
     Statement77, Stmt77, Times77, Type77, UnitRef77,
 };
-pub use tree::{Body77, Item77, Items77, Unit77, UnitKind};

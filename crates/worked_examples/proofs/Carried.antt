@@ -3,7 +3,7 @@ use Rattle.std.proofs.Common.{◌≡◌, ℕ, zero, suc, ◌-◌, ℤ, pos, Bool
 use Rattle.std.proofs.lemmas.List.Elements.{Contains-get_or}
 use Rattle.std.proofs.lemmas.Option.{slice_get_within, get_or_from_slice_get}
 use Rattle.std.specs.Option.{option_and_then}
-use Rattle.tree77.specs.Layout.{Layout, integers, layout_of}
+use Rattle.program77.specs.Layout.{Layout, integers, layout_of}
 use Rattle.tree90.specs.Tree.{FreeProgram}
 use Rattle.tree90.specs.Meaning.{Object, Cells, integer_at, object_integer}
 use Rattle.tree90.specs.Meaning as free

@@ -3,8 +3,8 @@ use Rattle.std.specs.Prelude.{ℕ, pos, true, false, List, [], ◌∷◌, ◌++�
 use Rattle.text_base.specs.Cards.{Card, Comment}
 use Rattle.text_base.specs.Trees.{Expr, int, name, binary, times, add, subtract, assign, stop}
 use Rattle.text_base.specs.declared.refusal.Place.{Place}
-use Rattle.tree77.specs.Source.{IsSource}
-use Rattle.tree77.specs.Tree.{simple, continue, Code, done, item, SourceProgram}
+use Rattle.program77.specs.Source.{IsSource}
+use Rattle.program77.specs.Tree.{simple, continue, Code, done, item, SourceProgram}
 use Rattle.worked_examples.specs.Sources.{blanks, zeros}
 
 -- a line of the one file

@@ -2,7 +2,7 @@
 use Rattle.std.specs.Prelude.{ℕ, List, [], ◌∷◌, ◌++◌, flat_map, codes}
 use Rattle.text_base.specs.LineRefusals.{Begun}
 use Rattle.text_base.specs.declared.refusal.Cause.{Cause}
-use Rattle.text_base.specs.declared.refusal.Cause.TheVariants.{LineTooLong, BadLabelField, ContinuationFirst, BadCharacter, NotAStatement, Unsupported, ConstantRange, NameTooLong, NotBuilt}
+use Rattle.text_base.specs.declared.refusal.Cause.TheVariants.{LineTooLong, BadLabelField, ContinuationFirst, BadCharacter, NotAStatement, Unsupported, ConstantRange, NameTooLong, StatementOrder, BadNesting, MissingEnd, NotBuilt}
 use Rattle.text_base.specs.declared.refusal.Refusal.{Refusal}
 use Rattle.worked_examples.specs.Read.{at_line}
 use Rattle.worked_examples.specs.Sources.{blanks, zeros}
@@ -72,11 +72,19 @@ refused_sources =
     -- a written line of 132 characters, and one of 133
     ∷ (program_with (codes "      I=-1" ++ repeated 31 (codes "+1") ++ codes "\n"), [])
     ∷ (program_with (codes "      I1=-1" ++ repeated 30 (codes "+1") ++ codes "+\n" ++ codes "     11\n"), at 2 NotBuilt (codes "I1=-1+1+1+1+") ∷ [])
-    -- files that aren't one main program: an empty one, one without END, one without PROGRAM, and one that goes on
+    -- a declaration behind an executable statement, a second header, an END IF without IF, a DO without its terminal statement, and a
+    -- GO TO as one; each is refused before what isn't converted
+    ∷ (program_with (codes "      I = 1\n" ++ codes "      INTEGER J\n" ++ codes "      SUBROUTINE S\n"), at 3 StatementOrder (codes "INTEGER") ∷ at 4 StatementOrder (codes "SUBROUTINE") ∷ [])
+    ∷ (program_with (codes "      END IF\n" ++ codes "      J = I * 2\n"), at 2 BadNesting (codes "ENDIF") ∷ [])
+    ∷ (program_with (codes "      DO 10 I = 1, 3\n" ++ codes "      IF (I .GT. 1) THEN\n" ++ codes "   10 CONTINUE\n" ++ codes "      END IF\n"), at 2 BadNesting (codes "10") ∷ [])
+    ∷ (program_with (codes "      DO 10 I = 1, 3\n" ++ codes "   10 GO TO 20\n"), at 3 BadNesting (codes "GOTO") ∷ [])
+    -- units without END
+    ∷ (codes "      PROGRAM T\n" ++ codes "      I = 1\n", at 2 MissingEnd (codes "T") ∷ [])
+    ∷ (program_with [] ++ codes "      I = 1\n", at 3 MissingEnd (codes "MAIN") ∷ [])
+    -- files that aren't one main program: an empty one, one without PROGRAM, and one of two units
     ∷ ([], at 0 NotBuilt (codes "0") ∷ [])
-    ∷ (codes "      PROGRAM T\n" ++ codes "      I = 1\n", at 0 NotBuilt (codes "0") ∷ [])
     ∷ (codes "      I = 1\n" ++ codes "      END\n", at 0 NotBuilt (codes "0") ∷ [])
-    ∷ (program_with [] ++ codes "      I = 1\n", at 0 NotBuilt (codes "0") ∷ [])
+    ∷ (program_with [] ++ codes "      I = 1\n" ++ codes "      END\n", at 0 NotBuilt (codes "0") ∷ [])
     ∷ []
 
 -- a statement that has so many continuation lines

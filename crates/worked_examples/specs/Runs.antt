@@ -2,7 +2,7 @@
 use Rattle.std.specs.Prelude.{ℕ, pos, List, [], ◌∷◌, codes, None}
 use Rattle.text_base.specs.Values.{Held, holds_integer, RunFault}
 use Rattle.text_base.specs.Runs.{Final, going, ended, fault}
-use Rattle.tree77.specs.Meaning.{Store}
+use Rattle.program77.specs.Meaning.{Store}
 use Rattle.tree90.specs.Meaning.{Object, Objects, integers}
 use Rattle.worked_examples.specs.Read.{at_line}
 

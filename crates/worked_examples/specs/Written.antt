@@ -2,7 +2,7 @@
 use Rattle.std.specs.Prelude.{ℕ, true, false, List, [], ◌∷◌, ◌++◌, codes}
 use Rattle.text_base.specs.Remarks.{Remark}
 use Rattle.text_base.specs.Trees.{binary, add, subtract, Expr, name, assign, stop}
-use Rattle.tree77.specs.Layout.{Layout, local, integers}
+use Rattle.program77.specs.Layout.{Layout, local, integers}
 use Rattle.tree90.specs.Tree.{simple, Code, done, item, integer_object, FreeProgram}
 use Rattle.project_set.specs.Positions.{Position, before_header, after_header, before_entry, at_end, Placed}
 use Rattle.worked_examples.specs.Sources.{blanks}

@@ -1,12 +1,12 @@
 // Sources, from their bytes to their programs.
 ghost use Rattle.std.specs.Prelude.{◌≡◌, [], All};
 ghost use Rattle.text_base.specs.Cards.{cards, comments};
-ghost use Rattle.tree77.specs.Source.{IsSource};
+ghost use Rattle.program77.specs.Source.{IsSource};
 ghost use Rattle.project_set.specs.Refusals.{refusals};
 ghost use Rattle.worked_examples.specs.Sources.{whole_source, short_source, undefined_source, overflow_source, product_source, no_sources};
 ghost use Rattle.worked_examples.specs.Read.{whole_cards, whole_comments, whole_program, short_program, undefined_program, overflow_program, product_program, IsNoSource};
 
-use parse77::statements_are_spelled;
+use program77::sources_are_read;
 
 /// The statements and the comments of a file.
 pub fn whole_deck()
@@ -23,7 +23,7 @@ pub fn sources()
     ensures product { IsSource 0 product_source product_program }
     ensures none { All IsNoSource no_sources }
 {
-    statements_are_spelled();
+    sources_are_read();
 }
 
 /// Nothing is refused of those that are converted.

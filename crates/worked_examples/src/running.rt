@@ -4,7 +4,7 @@ ghost use Rattle.text_base.specs.Operations.{unary_result, binary_result, comput
 ghost use Rattle.text_base.specs.Trees.{plus, minus, add, subtract};
 ghost use Rattle.text_base.specs.Values.{integer, undefined, Undefined, Overflow};
 ghost use Rattle.text_base.specs.Runs.{going, ended, fault};
-ghost use Rattle.tree77.specs.Meaning.{run77};
+ghost use Rattle.program77.specs.Meaning.{run77};
 ghost use Rattle.tree90.specs.Meaning.{nowhere, IsStart, run90};
 ghost use Rattle.worked_examples.specs.Read.{whole_program, short_program, undefined_program, overflow_program, order_program};
 ghost use Rattle.worked_examples.specs.Runs.{value, goes_on, has_ended, has_faulted, three};

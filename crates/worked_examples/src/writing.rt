@@ -1,6 +1,6 @@
 // What is written for a whole program.
 ghost use Rattle.std.specs.Prelude.{◌≡◌, codes};
-ghost use Rattle.tree77.specs.Layout.{layout_of};
+ghost use Rattle.program77.specs.Layout.{layout_of};
 ghost use Rattle.tree90.specs.FreeText.{SpellsText};
 ghost use Rattle.tree90.specs.Printed.{expr_text};
 ghost use Rattle.tree90.specs.Proper.{IsProper};

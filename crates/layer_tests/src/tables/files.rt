@@ -258,15 +258,18 @@ UNITS 1\nWEBS 0\nKEPT 0\nARRAYS 0\nCUT 0\n
 /// The file; what is refused of it.
 pub const REFUSED: &str = r"
 # no END
-      PROGRAM T\n      I = 1\n ~ t.f:0: 99 NotBuilt 0\n
+      PROGRAM T\n      I = 1\n ~ t.f:2: 13 MissingEnd T\n
 
 # END twice, and a statement after END
       PROGRAM T\n      I = 1\n      END\n      END\n ~ t.f:0: 99 NotBuilt 0\n
-      PROGRAM T\n      END\n      I = 1\n ~ t.f:0: 99 NotBuilt 0\n
+      PROGRAM T\n      END\n      I = 1\n ~ t.f:3: 13 MissingEnd MAIN\n
+
+# two main programs
+      PROGRAM T\n      END\n      PROGRAM U\n      END\n ~ t.f:0: 99 NotBuilt 0\n
 
 # no PROGRAM statement, and two
       I = 1\n      END\n ~ t.f:0: 99 NotBuilt 0\n
-      PROGRAM T\n      PROGRAM T\n      END\n ~ t.f:0: 99 NotBuilt 0\n
+      PROGRAM T\n      PROGRAM T\n      END\n ~ t.f:2: 11 StatementOrder PROGRAM\n
 
 # comments alone, and nothing
 C     FIRST\n\n*     NEXT\n ~ t.f:0: 99 NotBuilt 0\n
@@ -326,15 +329,46 @@ t.f:3: 7 NotAStatement \n\
 t.f:4: 7 NotAStatement \n
 
 # all of them, in order, lower case read as upper case
+      PROGRAM T\n\
+      x = 1\n\
+C\n\
+      go to 10\n\
+      i = t\n\
+      END\n ~ \
+t.f:2: 99 NotBuilt X=1\n\
+t.f:4: 99 NotBuilt GOTO10\n\
+t.f:5: 99 NotBuilt I=T\n
+
+# a header that isn't first, and not what isn't converted yet
       x = 1\n\
       PROGRAM T\n\
 C\n\
       go to 10\n\
       i = t\n\
       END\n ~ \
-t.f:1: 99 NotBuilt X=1\n\
-t.f:4: 99 NotBuilt GOTO10\n\
-t.f:5: 99 NotBuilt I=T\n
+t.f:2: 11 StatementOrder PROGRAM\n
+
+# order, nesting, labels and units come with the statements by themselves, in order of lines, and before what isn't converted yet
+      SUBROUTINE S(A)\n\
+      DO 10 I = 1, 3\n\
+      X = 1.5\n\
+      INTEGER K\n\
+      I == 1\n\
+      ELSE\n\
+      END\n\
+      I = 2147483648\n\
+      PAUSE\n\
+      \32{I} = 1\n\
+      GO TO 10\n ~ \
+t.f:2: 12 BadNesting 10\n\
+t.f:3: 8 Unsupported CONSTANT\n\
+t.f:4: 11 StatementOrder INTEGER\n\
+t.f:5: 7 NotAStatement I==1\n\
+t.f:6: 12 BadNesting ELSE\n\
+t.f:8: 9 ConstantRange 2147483648\n\
+t.f:9: 8 Unsupported PAUSE\n\
+t.f:10: 10 NameTooLong \31{I}\n\
+t.f:11: 13 MissingEnd MAIN\n
 
 # kept text as it stands
       PROGRAM T\n\
@@ -415,7 +449,7 @@ t.f:3: 8 Unsupported CONTROL\n\
 t.f:4: 8 Unsupported EDIT\n\
 t.f:5: 7 NotAStatement FORMAT(3Ha b\n
 
-# in a file that is no program
+# the last statement of a file without END, of a lower cause
       I = 1\n      PAUSE\n ~ t.f:2: 8 Unsupported PAUSE\n
 
 # at the initial line

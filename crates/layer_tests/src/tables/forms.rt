@@ -342,16 +342,17 @@ format: (1x,"A CONSTANT THAT STANDS ON 2 LINES OF THE STATEMENT,\2{ }AND ITS END
    10 FORMAT (0HA) ~ 7 FORMAT(0HA)
       FORMAT (I5) ~ 7 FORMAT(I5)
 
-# assignments and statement functions without dummies
+# assignments and statement functions; a unit of one statement declares no arrays
       I = 1 ~ I = 1
    10 I = 1 ~ I = 1
       i  j  k = 1 2 3 ~ IJK = 123
-      A(I, J) = B*C + D ~ A[I,J] = {{B*C}+D}
+      A(I, J) = B*C + D ~ A[I,J] := {{B*C}+D}
+      A(I, 2) = B*C + D ~ A[I,2] = {{B*C}+D}
       C(1:2) = 'X'//T ~ C<1:2> = {"X"//T}
       C(I)(:J) = ' ' ~ C[I]<:J> = " "
       F() = 1 ~ F[] := 1
       f()=a+b ~ F[] := {A+B}
-      F(X, Y) = X + Y ~ F[X,Y] = {X+Y}
+      F(X, Y) = X + Y ~ F[X,Y] := {X+Y}
       I = 1\61{ }+ 2 ~ I = 1
       I = 1 +\n     1    2 +\n     2    3 ~ I = {{1+2}+3}
 
@@ -362,15 +363,15 @@ format: (1x,"A CONSTANT THAT STANDS ON 2 LINES OF THE STATEMENT,\2{ }AND ITS END
       GO TO 10 = 3 ~ GOTO10 = 3
       READ (5, 10) = 3 ~ READ[5,10] = 3
       WRITE (6)(1:2) = 'X' ~ WRITE[6]<1:2> = "X"
-      IF (L) = 3 ~ IF[L] = 3
+      IF (L) = 3 ~ IF[L] := 3
       IF (L)(1:2) = 'X' ~ IF[L]<1:2> = "X"
-      ELSE IF (L) = 3 ~ ELSEIF[L] = 3
+      ELSE IF (L) = 3 ~ ELSEIF[L] := 3
       STOP 1 = 2 ~ STOP1 = 2
       DATA (1) = 2 ~ DATA[1] = 2
       PAUSE = 1 ~ PAUSE = 1
       IMPLICIT NONE = 1 ~ IMPLICITNONE = 1
    10 FORMAT = 3 ~ FORMAT = 3
-      FORMAT (I5) = 3 ~ FORMAT[I5] = 3
+      FORMAT (I5) = 3 ~ FORMAT[I5] := 3
 
 # assignments that are refused
       I = 1.5 ~ 8 CONSTANT

@@ -1,4 +1,4 @@
-use Rattle.tree77.specs.Meaning.{Store}
+use Rattle.program77.specs.Meaning.{Store}
 use Rattle.definition_laws.proofs.Evaluating.{values_exact, exact_given, undefined_cause, overflow_cause, faults_here, left_first}
 use Rattle.definition_laws.proofs.faults.source_expressions_are_exact.Goals as goal
 

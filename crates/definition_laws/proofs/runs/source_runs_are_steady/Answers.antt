@@ -1,7 +1,7 @@
 use Rattle.std.proofs.Common.{sym, ap, ◌∙◌, subst, ◌+◌}
 use Rattle.std.specs.Prelude.{slice_get}
-use Rattle.tree77.specs.Layout.{layout_of}
-use Rattle.tree77.specs.Meaning.{run_main}
+use Rattle.program77.specs.Layout.{layout_of}
+use Rattle.program77.specs.Meaning.{run_main}
 use Rattle.definition_laws.specs.CommentPlaces.{code_marks, how_many}
 use Rattle.definition_laws.specs.Running.{IsOver}
 use Rattle.definition_laws.proofs.Budgets.{source_one, source_begins, source_ends}

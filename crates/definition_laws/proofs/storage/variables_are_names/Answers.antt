@@ -1,4 +1,4 @@
-use Rattle.tree77.specs.Typing.{code_names}
+use Rattle.program77.specs.Typing.{code_names}
 use Rattle.definition_laws.proofs.NameOrder.{seen, from_seen}
 use Rattle.definition_laws.proofs.ObjectLemmas.{names_of}
 use Rattle.definition_laws.proofs.StorageLemmas.{in_place}

@@ -2,8 +2,9 @@ use Rattle.std.proofs.Common.{List, [], ◌∷◌, All, sym, ◌∙◌, subst}
 use Rattle.std.proofs.lemmas.List.Folds.{list_all-map}
 use Rattle.text_base.specs.Chars.{is_name}
 use Rattle.text_base.specs.Cards.{Comment, comments}
-use Rattle.tree77.specs.Tree.{SourceUnit, SourceProgram}
-use Rattle.tree77.specs.Typing.{variables}
+use Rattle.program77.specs.Plain.{source_unit}
+use Rattle.program77.specs.Tree.{SourceUnit, SourceProgram}
+use Rattle.program77.specs.Typing.{variables}
 use Rattle.tree90.specs.Tree.{integer_object}
 use Rattle.tree90.specs.Proper.{declared_name, IsProper}
 use Rattle.project_set.specs.MapText.{map_lines}
@@ -23,4 +24,4 @@ proper_named cs u proper =
 
 pub returns-clause-named : goal.returns-clause-named
 returns-clause-named c bytes p is =
-    subst (λ (q : SourceProgram). IsProper (written (comments bytes) q) → All IsWellNamed (map_lines q)) (sym is.is_source.whole) (proper_named (comments bytes) is.is_source.unit) (c.written_is_proper.ensures bytes p is)
+    subst (λ (q : SourceProgram). IsProper (written (comments bytes) q) → All IsWellNamed (map_lines q)) (sym is.is_source.whole) (proper_named (comments bytes) (source_unit is.is_source.unit)) (c.written_is_proper.ensures bytes p is)

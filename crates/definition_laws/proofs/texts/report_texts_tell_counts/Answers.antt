@@ -6,7 +6,7 @@ use Rattle.text_base.specs.LineRefusals.{card_refusals, too_large, line_refusals
 use Rattle.text_base.specs.declared.limits.TheConstants.{LARGEST_FILE}
 use Rattle.text_base.specs.declared.refusal.Refusal.{Refusal}
 use Rattle.std.proofs.Common.{None}
-use Rattle.tree77.specs.Tree.{SourceProgram}
+use Rattle.program77.specs.Tree.{SourceProgram}
 use Rattle.definition_laws.proofs.TextLemmas.{one_report, cut_count}
 use Rattle.definition_laws.proofs.texts.report_texts_tell_counts.Goals as goal
 

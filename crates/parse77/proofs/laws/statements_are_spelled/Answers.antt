@@ -1,4 +1,4 @@
-use Rattle.parse77.proofs.SourceReading.{CardLaws, card_spelled, card_accepted, card_refused, card_rejected, built_spelled, built_read, source_of, source_read}
+use Rattle.parse77.proofs.CardReading.{CardLaws, card_spelled, card_accepted, card_refused, card_rejected}
 use Rattle.parse77.proofs.StatementOutcomes.{Reads, spelled, read, refused, found_refused}
 use Rattle.parse77.proofs.laws.statements_are_spelled.Goals as goal
 
@@ -21,8 +21,4 @@ returns c =
       card_only = card_accepted reads d;
       card_refused = card_refused reads d;
       card_refused_only = card_rejected reads d;
-      built_found = built_spelled reads d;
-      built_only = built_read reads d;
-      source_found = source_of reads d;
-      source_only = source_read reads d;
     }

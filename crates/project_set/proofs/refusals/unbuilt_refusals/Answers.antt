@@ -11,7 +11,7 @@ loop-card-preserved-in-Continue-1 c =
       unit = c.loop-card.invariant.unit;
       list =
           one_refused c.args.cards.now c.args.statements.now c.requires (length c.loop-card.yielded) _ c.in-Some.card.now c.in-Some.read.now c.program_name-unit.result c.is_built.result
-          (length-append c.loop-card.yielded ((c.in-Some.card, c.in-Some.read) ∷ [])) turn.0 turn.1 (turn.2 _) (turn.3 _) c.loop-card.invariant.unit c.is_built.ensures
+          (length-append c.loop-card.yielded ((c.in-Some.card, c.in-Some.read) ∷ [])) turn.0 turn.1 (turn.2 _) (turn.3 _) c.loop-card.invariant.unit (c.is_built.ensures 0)
           c.loop-card.refusals c.refuse.new.refusals _ (search rules) refl c.in_ok-refuse.ensures c.loop-card.invariant.list;
     }
 
@@ -23,7 +23,7 @@ loop-card-preserved c =
       unit = c.loop-card.invariant.unit;
       list =
           not_refused c.args.cards.now c.args.statements.now c.requires (length c.loop-card.yielded) _ c.in-Some.card.now c.in-Some.read.now c.program_name-unit.result c.is_built.result
-          (length-append c.loop-card.yielded ((c.in-Some.card, c.in-Some.read) ∷ [])) turn.0 turn.1 (turn.2 _) (turn.3 _) c.loop-card.invariant.unit c.is_built.ensures
+          (length-append c.loop-card.yielded ((c.in-Some.card, c.in-Some.read) ∷ [])) turn.0 turn.1 (turn.2 _) (turn.3 _) c.loop-card.invariant.unit (c.is_built.ensures 0)
           c.loop-card.refusals (search rules) c.loop-card.invariant.list;
     }
 

@@ -1,6 +1,6 @@
 use Rattle.std.proofs.Common.{◌≡◌, not, length, map, filter, take}
 use Rattle.card_reader.specs.Deck.{card_of}
-use Rattle.parse77.specs.SourceReading.{read_of}
+use Rattle.program77.specs.SourceReading.{read_of}
 use Rattle.project_set.specs.Refusals.{program_name, is_built_card, not_built_at}
 use Rattle.project_set.proofs.refusals.unbuilt_refusals.Given as goal
 

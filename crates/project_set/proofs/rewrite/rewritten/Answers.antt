@@ -10,7 +10,7 @@ pub returns : goal.returns
 returns c =
     let made : Unit90 = record {
       kind = Main;
-      name = c.args.unit.name;
+      name = c.unit_name-name.result;
       declared = c.in_ok-declared.declared;
       items = c.in_ok-items.items;
       head = c.args.comments.head;
@@ -21,4 +21,4 @@ returns c =
     λ cs at.
     ap (λ l. let p : FreeProgram = record { units = map free.unit_of l; tail = c.args.comments.tail } in p) units
     ∙ program_made cs c.args.unit c.args.names.now c.args.comments c.last-tail.new.comments c.last-tail.result made
-    c.requires.counted c.requires.named c.last-tail.ensures refl refl refl refl c.in_ok-declared.ensures c.in_ok-items.ensures at
+    c.requires.counted c.requires.named c.last-tail.ensures c.unit_name-name.ensures refl refl refl c.in_ok-declared.ensures c.in_ok-items.ensures at

@@ -1,0 +1,3 @@
+mod UnitRead
+mod Items
+mod SourceReading
