@@ -1,6 +1,6 @@
 -- Nothing is refused of a file where it is the source of a program that is converted.
 use Rattle.std.proofs.Common.{◌≡◌, ◌↔◌, ◌∙◌, sym, ap, subst, refl, ℕ, Bool, true, false, not, cond, ◌&&◌, List, [], ◌∷◌, length, map, filter, Option, Some, None, arith}
-use Rattle.std.specs.Prelude.{nat_lt, ◌==◌, ◌++◌, if◌then◌else◌}
+use Rattle.std.specs.Prelude.{nat_lt, if◌then◌else◌}
 use Rattle.std.specs.List.{list_all}
 use Rattle.std.specs.Option.{option_and_then, option_map}
 use Rattle.std.proofs.lemmas.Bool.{and_from, and_parts, leb-true, le-leb}
@@ -21,7 +21,7 @@ use Rattle.program77.specs.Tree.{Code, done, item, SourceUnit, SourceProgram}
 use Rattle.program77.specs.Typing.{code_names, is_variable, is_typed}
 use Rattle.program77.specs.SourceReading.{read_card, read_of, file_statements, Ended, ended_at, join_code, read_code, unit_with, header_name, read_unit, typed_unit, unless_refused, read_source}
 use Rattle.parse77.specs.Statement.{deck_refusals}
-use Rattle.project_set.specs.Refusals.{program_name, is_built_operand, is_built, is_built_action, is_short, is_built_statement, is_built_as, is_built_card, not_built_at, unbuilt_refusals, unit_refusals, first_of, source_refusals, refusals}
+use Rattle.project_set.specs.Refusals.{program_name, is_built_operand, is_built, is_built_action, is_short, is_built_statement, is_built_as, is_built_card, not_built_at, unbuilt_refusals, unit_refusals, first_of, refusals}
 use Rattle.definition_laws.specs.AcceptedFiles.{IsTerm, constant, variable, IsSumOfTerms, one_term, signed_term, more_terms, IsConverted, converted_assign, converted_stop, AreConverted, IsBuiltProgram, CardsAreSpelled, FilesAreSources}
 use Rattle.definition_laws.proofs.AcceptedFaults.{after, beside, along}
 

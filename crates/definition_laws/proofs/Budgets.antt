@@ -9,7 +9,7 @@ use Rattle.text_base.specs.declared.refusal.Place.{Place}
 use Rattle.program77.specs.Tree as source
 use Rattle.program77.specs.Tree.{SourceUnit}
 use Rattle.program77.specs.Layout.{Layout}
-use Rattle.program77.specs.Meaning.{Store, Line, line, Op, act, pass, lines, Open, from, proceed, tagged, start77, run_main}
+use Rattle.program77.specs.Meaning.{Store, Line, line, act, pass, lines, Open, from, proceed, tagged, start77, run_main}
 use Rattle.program77.specs.Meaning as flat
 use Rattle.tree90.specs.Tree as free
 use Rattle.tree90.specs.Tree.{FreeUnit}

@@ -10,12 +10,11 @@ use Rattle.text_base.specs.Runs.{Final, fault, Out, gives, over, bind, close, Ho
 use Rattle.text_base.specs.Evaluation.{Storage, Call, action}
 use Rattle.text_base.specs.declared.refusal.Place.{Place}
 use Rattle.program77.specs.Tree as source
-use Rattle.program77.specs.Tree.{SourceUnit, SourceProgram}
+use Rattle.program77.specs.Tree.{SourceUnit}
 use Rattle.program77.specs.Layout.{Layout}
 use Rattle.program77.specs.Meaning.{Store, Open, lines, from, proceed, tagged, start77, run_main}
 use Rattle.program77.specs.Meaning as flat
 use Rattle.tree90.specs.Tree as free
-use Rattle.tree90.specs.Tree.{FreeUnit}
 use Rattle.tree90.specs.Proper.{IsOperand, operand_int, operand_name, is_sign, is_additive, IsSum, only_operand, signed_operand, sum_of, IsWritableAction, writable_assign, writable_stop, IsWritableCode, IsProper}
 use Rattle.tree90.specs.Meaning.{Objects, untagged, nowhere, next, body, unit_end}
 use Rattle.tree90.specs.Meaning as nested

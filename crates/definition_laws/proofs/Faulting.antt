@@ -15,7 +15,7 @@ use Rattle.text_base.specs.declared.refusal.Place.{Place}
 use Rattle.program77.specs.Tree.{simple, continue, Code, done, item, SourceUnit, SourceProgram}
 use Rattle.program77.specs.Typing.{code_names}
 use Rattle.program77.specs.Layout.{Layout, Entity, layout_of, entity_named}
-use Rattle.program77.specs.Meaning.{Store, Line, lines, Open, from, proceed, tagged, read_at, write_at, start77, run_main, run77}
+use Rattle.program77.specs.Meaning.{Store, lines, Open, from, proceed, tagged, read_at, write_at, start77, run_main, run77}
 use Rattle.program77.specs.Meaning as flat
 use Rattle.definition_laws.specs.Storage.{IsVariableOf, place_of}
 use Rattle.definition_laws.specs.Statements.{actions_of}

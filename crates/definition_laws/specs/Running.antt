@@ -10,7 +10,7 @@ use Rattle.program77.specs.Tree.{SourceUnit, SourceProgram}
 use Rattle.program77.specs.Layout.{layout_of}
 use Rattle.program77.specs.Meaning.{Store, tagged, no_function, start77, run77}
 use Rattle.tree90.specs.Tree.{Code, done, item, FreeUnit, FreeProgram}
-use Rattle.tree90.specs.Meaning.{Objects, untagged, nowhere, declared_in, IsStart, run90}
+use Rattle.tree90.specs.Meaning.{Objects, untagged, IsStart, run90}
 use Rattle.tree90.specs.Meaning as free
 use Rattle.definition_laws.specs.Statements.{actions_of, written_actions}
 use Rattle.definition_laws.specs.CommentPlaces.{code_marks, how_many}

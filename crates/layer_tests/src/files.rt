@@ -1,31 +1,20 @@
 // Whole files: what is converted, and what is refused of them.
-use crate::help::{check, held, outputs, words_of};
+use crate::help::{answered, check, held, outputs};
 use crate::table::{Row, rows_of};
 use crate::tables::files::{CONVERTED, REFUSED};
-use command::{Status, modern};
+use command::Status;
 use std::alloc::Global;
 use std::process::Abort;
 use std::test::Fail;
-use text_base::{MemoryShelf, MemorySink};
-
-fn shelf_of(alloc: Global, source: &[u8]) -> Result<MemoryShelf, Fail> {
-    let mut shelf = MemoryShelf::new(alloc);
-    shelf.hold("t.f", source)?;
-    Ok(shelf)
-}
 
 // The file of a row is converted, where a call of the sink takes so many bytes.
 fn check_converted(rt: &impl Abort, alloc: Global, row: &Row, most: usize) -> Result<(), Fail> {
-    assert!(rt; most > 0);
-    let words = words_of(alloc, b"one/t.f/o/")?;
-    let mut shelf = shelf_of(alloc, row.field(0))?;
-    let mut out = MemorySink::new(alloc, most);
-    let status = modern(alloc, &words, &mut shelf, &mut out);
-    assert_eq!(rt; status, Status::Done, "row {}", row.number);
-    row.check(rt, 3, out.bytes());
-    row.check(rt, 1, held(&shelf, "o"));
-    row.check(rt, 2, held(&shelf, "o.map"));
-    row.check(rt, 3, held(&shelf, "o.report"));
+    let answer = answered(rt, alloc, row.field(0), most)?;
+    assert_eq!(rt; answer.status, Status::Done, "row {}", row.number);
+    row.check(rt, 3, answer.out.bytes());
+    row.check(rt, 1, held(&answer.shelf, "o"));
+    row.check(rt, 2, held(&answer.shelf, "o.map"));
+    row.check(rt, 3, held(&answer.shelf, "o.report"));
     Ok(())
 }
 
@@ -40,14 +29,11 @@ fn files_are_converted(rt: HostRuntime) -> Result<(), Fail> {
 
 // The file of a row is refused, and nothing is written for it.
 fn check_refused(rt: &impl Abort, alloc: Global, row: &Row) -> Result<(), Fail> {
-    let words = words_of(alloc, b"one/t.f/o/")?;
-    let mut shelf = shelf_of(alloc, row.field(0))?;
-    let mut out = MemorySink::new(alloc, 7);
-    let status = modern(alloc, &words, &mut shelf, &mut out);
-    assert_eq!(rt; status, Status::Refused, "row {}", row.number);
-    assert_eq!(rt; status.code(), 1);
-    row.check(rt, 1, out.bytes());
-    check(rt, outputs(alloc, &shelf)?.as_slice(), b"");
+    let answer = answered(rt, alloc, row.field(0), 7)?;
+    assert_eq!(rt; answer.status, Status::Refused, "row {}", row.number);
+    assert_eq!(rt; answer.status.code(), 1);
+    row.check(rt, 1, answer.out.bytes());
+    check(rt, outputs(alloc, &answer.shelf)?.as_slice(), b"");
     Ok(())
 }
 
@@ -62,12 +48,10 @@ fn what_is_not_converted_is_refused(rt: HostRuntime) -> Result<(), Fail> {
 #[test]
 fn a_large_file_is_refused(rt: HostRuntime) -> Result<(), Fail> {
     let alloc = rt.alloc();
-    let words = words_of(alloc, b"one/t.f/o/")?;
     let source = vec![in alloc; b'C'; 16777217]?;
-    let mut shelf = shelf_of(alloc, &source)?;
-    let mut out = MemorySink::new(alloc, 7);
-    let status = modern(alloc, &words, &mut shelf, &mut out);
-    assert_eq!(rt; status, Status::Refused);
-    check(&rt, out.bytes(), b"t.f:0: 1 FileTooLarge 16777217\n");
+    let answer = answered(&rt, alloc, &source, 7)?;
+    assert_eq!(rt; answer.status, Status::Refused);
+    let printed = b"t.f:0: 1 FileTooLarge 16777217\n";
+    check(&rt, answer.out.bytes(), printed);
     Ok(())
 }

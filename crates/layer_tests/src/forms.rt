@@ -3,6 +3,7 @@ use crate::expressions::{write_refusal, write_tree};
 use crate::table::rows_of;
 use crate::tables::forms::FORMS;
 use card_reader::read_cards;
+use order77::ReadStatement;
 use parse77::read_statements;
 use std::alloc::{AllocError, Global};
 use std::test::Fail;
@@ -12,7 +13,6 @@ use tree77::{
     Equation77, Expr, Exprs, FileControl77, FormatRef77, Header77, Implicit77, Length77, Letters77,
     Listed77, Range77, ReadBy77, Saved77, Statement77, Stmt77, Times77, Type77, UnitRef77,
 };
-use unit77::ReadStatement;
 
 type Written = Result<(), AllocError>;
 

@@ -1,10 +1,11 @@
 // What several tests stand on.
 use card_reader::{Deck, read_cards};
+use command::{Status, modern};
 use scan77::{Pieces, pieces};
 use std::alloc::{AllocError, Global};
 use std::process::Abort;
 use std::test::Fail;
-use text_base::{Bytes, MemoryShelf, Place};
+use text_base::{Bytes, MemoryShelf, MemorySink, Place};
 
 /// The text that bytes are, for a message.
 pub fn shown(bytes: &[u8]) -> &str {
@@ -96,4 +97,28 @@ pub fn outputs(alloc: Global, shelf: &MemoryShelf) -> Result<Bytes, AllocError> 
         }
     }
     Ok(said)
+}
+
+/// What the top call answered: its status, what the shelf then held, and what was printed.
+#[derive(Drop)]
+pub struct TopAnswer {
+    pub status: Status,
+    pub shelf: MemoryShelf,
+    pub out: MemorySink,
+}
+
+/// What the top call answers to `one t.f o` where t.f has these bytes and a call of the sink takes so many bytes.
+pub fn answered(
+    rt: &impl Abort,
+    alloc: Global,
+    source: &[u8],
+    most: usize,
+) -> Result<TopAnswer, Fail> {
+    assert!(rt; most > 0);
+    let words = words_of(alloc, b"one/t.f/o/")?;
+    let mut shelf = MemoryShelf::new(alloc);
+    shelf.hold("t.f", source)?;
+    let mut out = MemorySink::new(alloc, most);
+    let status = modern(alloc, &words, &mut shelf, &mut out);
+    Ok(TopAnswer { status, shelf, out })
 }

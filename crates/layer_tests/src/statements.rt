@@ -3,13 +3,14 @@ use crate::forms::write_as_read;
 use crate::table::rows_of;
 use crate::tables::statements::STATEMENTS;
 use card_reader::{Card, read_cards};
+use order77::ReadStatement;
 use parse77::{ParseError, parse_deck, read_statements, shown};
 use program77::{main_program, unit_name};
 use std::alloc::{AllocError, Global};
 use std::process::Abort;
 use std::test::Fail;
 use text_base::{Bytes, Place};
-use unit77::{ReadStatement, Unit77, Units77};
+use unit77::{Unit77, Units77};
 
 fn add_place(alloc: Global, place: Place, out: &mut Bytes) -> Result<(), AllocError> {
     let Place { file, line } = place;

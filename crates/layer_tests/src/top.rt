@@ -1,5 +1,5 @@
 // The top call: its words, its statuses, what is written and what is printed.
-use crate::help::{check, held, outputs, words_of};
+use crate::help::{answered, check, held, outputs, words_of};
 use crate::table::{Row, rows_of};
 use crate::tables::answers::ANSWERS;
 use command::{Status, in_memory, modern};
@@ -126,15 +126,12 @@ fn with_every_byte(alloc: Global, mark: u8, rest: &[u8]) -> Result<Vec<u8>, Fail
 #[test]
 fn comments_keep_every_byte(rt: HostRuntime) -> Result<(), Fail> {
     let alloc = rt.alloc();
-    let words = words_of(alloc, b"one/t.f/o/")?;
-    let mut shelf = MemoryShelf::new(alloc);
     let source = with_every_byte(alloc, b'C', SOURCE)?;
     let text = with_every_byte(alloc, b'!', TEXT)?;
-    shelf.hold("t.f", source.as_slice())?;
-    let mut out = MemorySink::new(alloc, 7);
-    assert_eq!(rt; modern(alloc, &words, &mut shelf, &mut out), Status::Done);
-    check(&rt, out.bytes(), REPORT);
-    check(&rt, held(&shelf, "o"), text.as_slice());
+    let answer = answered(&rt, alloc, source.as_slice(), 7)?;
+    assert_eq!(rt; answer.status, Status::Done);
+    check(&rt, answer.out.bytes(), REPORT);
+    check(&rt, held(&answer.shelf, "o"), text.as_slice());
     Ok(())
 }
 

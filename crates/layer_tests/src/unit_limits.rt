@@ -1,12 +1,12 @@
 // The limits on units, and files that end anywhere.
-use crate::help::{check, words_of};
+use crate::help::{answered, check};
 use crate::tables::units::{EDITOR, STOCK};
 use crate::units::told;
-use command::{Status, modern};
+use command::Status;
 use std::alloc::{AllocError, Global};
 use std::process::Abort;
 use std::test::Fail;
-use text_base::{Bytes, MemoryShelf, MemorySink};
+use text_base::Bytes;
 
 // Adds lines.
 fn add(out: &mut Bytes, lines: &[&str]) -> Result<(), AllocError> {
@@ -245,13 +245,9 @@ fn of_an_end_with_an_open_if_the_labels_are_refused(rt: HostRuntime) -> Result<(
     check_refused(&rt, alloc, lines, b"2003: 8 LABELS")
 }
 
-// The top call converts or refuses the file t.f of these bytes.
+// The top call converts or refuses the file of these bytes.
 fn check_answered(rt: &impl Abort, alloc: Global, bytes: &[u8]) -> Result<(), Fail> {
-    let words = words_of(alloc, b"one/t.f/o/")?;
-    let mut shelf = MemoryShelf::new(alloc);
-    shelf.hold("t.f", bytes)?;
-    let mut out = MemorySink::new(alloc, 80);
-    let status = modern(alloc, &words, &mut shelf, &mut out);
+    let status = answered(rt, alloc, bytes, 80)?.status;
     assert!(rt;
         status == Status::Done || status == Status::Refused,
         "{} bytes: {status:?}",
@@ -260,19 +256,20 @@ fn check_answered(rt: &impl Abort, alloc: Global, bytes: &[u8]) -> Result<(), Fa
     Ok(())
 }
 
-// Each prefix of the first 300 bytes, and each that ends with a line.
+// Each prefix of the file is answered.
 fn check_prefixes(rt: &impl Abort, alloc: Global, bytes: &[u8]) -> Result<(), Fail> {
     for (end, _) in bytes.iter().enumerate() {
-        let prefix = &bytes[..end];
-        if end <= 300 || prefix.ends_with(b"\n") {
-            check_answered(rt, alloc, prefix)?;
-        }
+        check_answered(rt, alloc, &bytes[..end])?;
     }
     check_answered(rt, alloc, bytes)
 }
 
 #[test]
-fn files_that_end_anywhere_are_answered(rt: HostRuntime) -> Result<(), Fail> {
-    check_prefixes(&rt, rt.alloc(), EDITOR.as_bytes())?;
+fn the_editor_that_ends_anywhere_is_answered(rt: HostRuntime) -> Result<(), Fail> {
+    check_prefixes(&rt, rt.alloc(), EDITOR.as_bytes())
+}
+
+#[test]
+fn the_stock_list_that_ends_anywhere_is_answered(rt: HostRuntime) -> Result<(), Fail> {
     check_prefixes(&rt, rt.alloc(), STOCK.as_bytes())
 }

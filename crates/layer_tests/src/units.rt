@@ -4,21 +4,22 @@ use crate::forms::{
     write_all_as_read, write_called, write_condition, write_declared, write_header,
     write_progression, write_simple,
 };
-use crate::help::{check, words_of};
+use crate::help::{answered, check};
 use crate::table::{Row, rows_of};
 use crate::tables::units::{READ_UNITS, REFUSED_UNITS};
 use card_reader::read_cards;
-use command::{Status, modern};
+use command::Status;
+use order77::{ReadStatement, settle};
 use parse77::{ParseError, files_are_units, parse_deck, read_accepted, read_statements};
 use sqlite_items::Items;
 use std::alloc::{AllocError, Global};
 use std::process::Abort;
 use std::test::Fail;
-use text_base::{Bytes, MemoryShelf, MemorySink, Name, Place, Refusal};
+use text_base::{Bytes, Name, Place, Refusal, Refusals};
 use tree77::{Expr, Statement77, Stmt77};
 use unit77::{
-    Arm77, Body77, DeclaredLine77, DoHead, EndIf, HeaderLine77, Item77, ReadStatement,
-    StmtFunction77, Unit77, file_refusals, nest_units, settle,
+    Arm77, Body77, DeclaredLine77, DoHead, EndIf, HeaderLine77, Item77, StmtFunction, Unit77,
+    file_refusals, nest_units,
 };
 
 type Written = Result<(), AllocError>;
@@ -153,14 +154,14 @@ fn write_declared_lines(alloc: Global, lines: &[DeclaredLine77], out: &mut Bytes
     Ok(())
 }
 
-fn write_function(alloc: Global, function: &StmtFunction77, out: &mut Bytes) -> Written {
+fn write_function(alloc: Global, function: &StmtFunction, out: &mut Bytes) -> Written {
     write_spot(alloc, function.number, function.label, function.place, out)?;
     write_called(&function.name, function.dummies.as_slice(), out)?;
     out.extend(b" := ")?;
     write_tree(alloc, &function.value, out)
 }
 
-fn write_functions(alloc: Global, functions: &[StmtFunction77], out: &mut Bytes) -> Written {
+fn write_functions(alloc: Global, functions: &[StmtFunction], out: &mut Bytes) -> Written {
     if functions.is_empty() {
         return out.push(b'-');
     }
@@ -263,40 +264,51 @@ fn told_by_parts(rt: &impl Abort, alloc: Global, file: &[u8]) -> Result<Bytes, F
 #[test]
 fn units_are_read(rt: HostRuntime) -> Result<(), Fail> {
     let alloc = rt.alloc();
-    for row in rows_of(alloc, READ_UNITS, 46, 2)?.iter() {
+    for row in rows_of(alloc, READ_UNITS, 47, 2)?.iter() {
         row.check(&rt, 1, told(&rt, alloc, row.field(0))?.as_slice());
         row.check(&rt, 1, told_by_parts(&rt, alloc, row.field(0))?.as_slice());
     }
     Ok(())
 }
 
-// The top call prints of the file of a row what is refused of its statements, before what isn't converted yet.
-fn check_printed(rt: &impl Abort, alloc: Global, row: &Row) -> Result<(), Fail> {
-    let deck = read_cards(alloc, 7, row.field(0))?;
+// All that is refused of the statements of a file, each of which is read.
+fn refusals_of(rt: &impl Abort, alloc: Global, file: &[u8]) -> Result<Refusals, Fail> {
+    let deck = read_cards(alloc, 7, file)?;
     let statements = read_statements(alloc, &deck)?;
     assert!(rt; statements.len() < 4294967295);
-    let refusals = file_refusals(alloc, statements.as_slice())?;
+    Ok(file_refusals(alloc, statements.as_slice())?)
+}
+
+// The top call refuses the file with these refusals, which are printed.
+fn check_printed(
+    rt: &impl Abort,
+    alloc: Global,
+    file: &[u8],
+    refusals: &[Refusal],
+) -> Result<(), Fail> {
+    let mut printed = Bytes::new(alloc);
+    write_printed(alloc, refusals, &mut printed)?;
+    let answer = answered(rt, alloc, file, 7)?;
+    assert_eq!(rt; answer.status, Status::Refused);
+    check(rt, answer.out.bytes(), printed.as_slice());
+    Ok(())
+}
+
+// The file of a row is refused of its statements, before what isn't converted yet.
+fn check_refused(rt: &impl Abort, alloc: Global, row: &Row) -> Result<(), Fail> {
+    row.check(rt, 1, told(rt, alloc, row.field(0))?.as_slice());
+    let refusals = refusals_of(rt, alloc, row.field(0))?;
     let mut said = Bytes::new(alloc);
     write_refusals(alloc, refusals.as_slice(), &mut said)?;
     row.check(rt, 1, said.as_slice());
-    let mut printed = Bytes::new(alloc);
-    write_printed(alloc, refusals.as_slice(), &mut printed)?;
-    let words = words_of(alloc, b"one/t.f/o/")?;
-    let mut shelf = MemoryShelf::new(alloc);
-    shelf.hold("t.f", row.field(0))?;
-    let mut out = MemorySink::new(alloc, 7);
-    let status = modern(alloc, &words, &mut shelf, &mut out);
-    assert_eq!(rt; status, Status::Refused, "row {}", row.number);
-    check(rt, out.bytes(), printed.as_slice());
-    Ok(())
+    check_printed(rt, alloc, row.field(0), refusals.as_slice())
 }
 
 #[test]
 fn units_are_refused(rt: HostRuntime) -> Result<(), Fail> {
     let alloc = rt.alloc();
-    for row in rows_of(alloc, REFUSED_UNITS, 212, 2)?.iter() {
-        row.check(&rt, 1, told(&rt, alloc, row.field(0))?.as_slice());
-        check_printed(&rt, alloc, row)?;
+    for row in rows_of(alloc, REFUSED_UNITS, 216, 2)?.iter() {
+        check_refused(&rt, alloc, row)?;
     }
     Ok(())
 }

@@ -5,25 +5,22 @@ use Rattle.std.specs.Prelude.{not, if◌then◌else◌}
 use Rattle.std.specs.List.{zip}
 use Rattle.std.specs.Option.{option_map}
 use Rattle.text_base.specs.Cards.{Card}
-use Rattle.text_base.specs.Pieces.{Piece}
-use Rattle.text_base.specs.declared.refusal.Refusal.{Refusal}
 use Rattle.card_reader.specs.Deck.{card_of}
 use Rattle.card_reader.specs.declared.card.Card as deck
 use Rattle.tree77.specs.CardSpelling.{SpellsCard}
 use Rattle.tree77.specs.Statements.{Statement}
 use Rattle.scan77.specs.PieceReading.{pieces_of}
 use Rattle.unit77.specs.CardPrograms.{SpellsLine, SpellLines, AreUnitsOf}
-use Rattle.unit77.specs.Counts.{Reading, counts_as, counts_action, is_end}
-use Rattle.unit77.specs.FileRefusals.{file_refusals}
+use Rattle.order77.specs.Counts.{Reading, counts_as, counts_action, is_end}
 use Rattle.unit77.specs.Laws.{AreNumbered, AreReadOrRefused, IsProgram, ProgramOrNot, OneProgram}
 use Rattle.unit77.specs.Programs.{ProgramUnit, AreUnits, reading_of}
-use Rattle.unit77.specs.ReadViews.{reading_at, readings_from, readings_of}
-use Rattle.unit77.specs.Settling.{as_function, arrays_ahead, is_text, functions_behind, functions, settled_as, settled}
+use Rattle.order77.specs.ReadViews.{reading_at, readings_from, readings_of}
+use Rattle.order77.specs.Settling.{as_function, arrays_ahead, is_text, functions_behind, settled_as, settled}
 use Rattle.unit77.specs.Tree.{Line}
 use Rattle.unit77.specs.Views.{line}
-use Rattle.unit77.specs.declared.read.ReadStatement.{ReadStatement}
+use Rattle.order77.specs.declared.read.ReadStatement.{ReadStatement}
 use Rattle.parse77.specs.Reading.{Read, accepted, read_statement, outcome_from, card_outcome}
-use Rattle.parse77.specs.Statement.{reading_by, refusal_by, card_reading, card_readings, file_readings, deck_refusals}
+use Rattle.parse77.specs.Statement.{reading_by, card_reading, card_readings, file_readings, deck_refusals}
 
 -- ---- what settling keeps
 
@@ -158,7 +155,7 @@ record AreSpelled (n : ℕ) (cards : List Card) : Type 0 where
 pub file_refused : (cards : List Card) → AreReadOrRefused (file_readings cards)
 file_refused cards = let rs = card_readings 0 cards in kept_refused (settled rs) rs (settled_kept rs) (cards_refused 0 cards)
 
-file_numbered : (cards : List Card) → AreNumbered 0 (file_readings cards)
+pub file_numbered : (cards : List Card) → AreNumbered 0 (file_readings cards)
 file_numbered cards = let rs = card_readings 0 cards in kept_numbered 0 (settled rs) rs (settled_kept rs) (cards_numbered 0 cards)
 
 module _ (laws : FileLaws) where

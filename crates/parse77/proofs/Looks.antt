@@ -3,10 +3,10 @@ use Rattle.std.proofs.Common.{◌≡◌, ◌↔◌, IsTrue, ℕ, Bool, true, fal
 use Rattle.std.specs.Prelude.{codes, if◌then◌else◌}
 use Rattle.std.specs.List.{list_all}
 use Rattle.std.specs.Str.{bytes_eq}
-use Rattle.std.proofs.lemmas.Bool.{and_parts, eqb-true, false_from_ne_true}
+use Rattle.std.proofs.lemmas.Bool.{and_parts, eqb-true}
 use Rattle.text_base.specs.Chars.{is_upper, is_digit, is_name_byte}
 use Rattle.text_base.specs.Pieces.{Piece, plain, whole, broken}
-use Rattle.text_base.proofs.CharTests.{digit_is_no_letter, letter_is_name_byte}
+use Rattle.text_base.proofs.CharTests.{digit_is_no_letter}
 use Rattle.tree77.specs.Forms.{sort_of, first_sort, is_in, passing, ahead, text}
 use Rattle.tree77.specs.Tokens.{is_mark}
 use Rattle.scan77.specs.PieceSlice.{behind_plain}

@@ -5,14 +5,13 @@ use Rattle.text_base.specs.Cards.{Card}
 use Rattle.text_base.specs.declared.refusal.Place.{Place}
 use Rattle.text_base.specs.declared.refusal.Refusal.{Refusal}
 use Rattle.tree77.specs.Lexemes.{Part}
-use Rattle.tree77.specs.Statements.{Statement}
 use Rattle.scan77.specs.PieceReading.{pieces_of}
-use Rattle.unit77.specs.Counts.{Reading}
+use Rattle.order77.specs.Counts.{Reading}
 use Rattle.unit77.specs.FileRefusals.{file_refusals}
-use Rattle.unit77.specs.Settling.{settled}
+use Rattle.order77.specs.Settling.{settled}
 use Rattle.parse77.specs.declared.deck.ParseError.{ParseError}
 use Rattle.parse77.specs.declared.deck.ParseError.TheVariants.{Refused, Memory}
-use Rattle.parse77.specs.Reading.{Read, Outcome, accepted, rejected, read_statement, outcome_from, card_outcome}
+use Rattle.parse77.specs.Reading.{Read, Outcome, accepted, rejected, read_statement, outcome_from}
 
 -- the refusal of a part, at a place
 abbrev pub refusal_at : Place → Part → Refusal

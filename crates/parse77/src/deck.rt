@@ -2,17 +2,18 @@
 ghost use Rattle.std.specs.Prelude.{◌≡◌, ◌<◌, ◌-◌, ◌^◌, [], length, map, IfOk, OnOk};
 ghost use Rattle.card_reader.specs.Deck.{card_of};
 ghost use Rattle.unit77.specs.CardPrograms.{AreUnitsOf};
-ghost use Rattle.unit77.specs.ReadViews.{readings_of};
+ghost use Rattle.order77.specs.ReadViews.{readings_of};
 ghost use Rattle.unit77.specs.UnitViews.{unit_of};
 ghost use Rattle.parse77.specs.Statement.{deck_refusals, file_readings, RefusesWith};
 
 use crate::laws::files_are_units;
 use crate::reader::read_statements;
 use card_reader::Deck;
+use order77::ReadStatement;
 use std::alloc::{AllocError, Global};
 use text_base::Refusals;
 use thiserror::Error;
-use unit77::{ReadStatement, Units77, file_refusals, nest_units};
+use unit77::{Units77, file_refusals, nest_units};
 
 /// Why a file has no units.
 #[derive(Debug, Drop, Error)]

@@ -1,5 +1,5 @@
 // What holds of the definitions of statements and of files.
-ghost use Rattle.std.specs.Prelude.{◌≡◌, ℕ, List, [], ◌∷◌, Option, Some};
+ghost use Rattle.std.specs.Prelude.{◌≡◌, ℕ, List, [], Option, Some, map, flat_map};
 ghost use Rattle.text_base.specs.Cards.{Card};
 ghost use Rattle.text_base.specs.Pieces.{Piece};
 ghost use Rattle.tree77.specs.CardSpelling.{SpellsCard, IsRefusedCard};
@@ -8,14 +8,14 @@ ghost use Rattle.tree77.specs.Spelling.{IsWideStatement, SpellsStatement, IsRefu
 ghost use Rattle.tree77.specs.Statements.{Statement};
 ghost use Rattle.unit77.specs.CardPrograms.{AreUnitsOf};
 ghost use Rattle.unit77.specs.Laws.{AreReadOrRefused, IsProgram};
-ghost use Rattle.unit77.specs.Programs.{ProgramUnit};
+ghost use Rattle.unit77.specs.Programs.{ProgramUnit, reading_of, unit_lines};
 ghost use Rattle.parse77.specs.Reading.{read_statement, accepted, rejected, outcome_of, card_outcome};
 ghost use Rattle.parse77.specs.Statement.{deck_refusals, file_readings};
 
 use format77::bodies_are_read;
 use forms77::{forms_are_read, groups_are_split, sizes_are_split};
 use scan77::{one_kind, one_list_of_pieces};
-use unit77::{one_program, program_or_not};
+use unit77::{one_program, program_or_not, statements_stand};
 
 /// The reading of a statement as a function gives what its pieces spell, with the lowest part of them that is refused, and
 /// all that they spell.
@@ -74,4 +74,12 @@ pub fn one_list_of_units()
 {
     files_are_units();
     one_program();
+}
+
+/// The statements of the units of a file, in order, are those of its cards as they are read.
+pub fn units_keep_statements()
+    ensures { (cards : List Card) (us : List ProgramUnit) → AreUnitsOf cards us → map reading_of (flat_map unit_lines us) ≡ file_readings cards }
+{
+    files_are_units();
+    statements_stand();
 }

@@ -9,19 +9,19 @@ ghost use Rattle.scan77.specs.PieceSlice.{slice_of};
 ghost use Rattle.parse77.specs.Reading.{outcome_from, rejected};
 ghost use Rattle.parse77.specs.Statement.{card_reading, card_readings, file_readings, reading_by, refusal_at};
 ghost use Rattle.parse77.specs.Views.{read_made};
-ghost use Rattle.unit77.specs.ReadViews.{reading_at, readings_of};
+ghost use Rattle.order77.specs.ReadViews.{reading_at, readings_of};
 
 use crate::statements::read_statement;
 use crate::whole::Read;
 use card_reader::{Card, Deck};
 use expr77::Part;
+use order77::{ReadStatement, settle};
 use scan77::{PieceSlice, pieces};
 use sqlite_items::Boxed;
 use std::alloc::{AllocError, Global};
 use text_base::limits::MOST_SHOWN;
 use text_base::{Bytes, Cause, Place, Refusal};
 use tree77::Statement77;
-use unit77::{ReadStatement, settle};
 
 /// The refusal of a statement for a part of it.
 fn refused(alloc: Global, place: Place, part: Part<'_>) -> Result<Boxed<Refusal>, AllocError>

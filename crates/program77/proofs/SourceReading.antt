@@ -8,7 +8,6 @@ use Rattle.text_base.specs.LineRefusals.{card_refusals}
 use Rattle.text_base.specs.declared.refusal.Refusal.{Refusal}
 use Rattle.text_base.proofs.Optional.{went, mapped}
 use Rattle.tree77.specs.CardSpelling.{SpellsCard}
-use Rattle.tree77.specs.Lexemes.{Part}
 use Rattle.tree77.specs.Statements.{Statement}
 use Rattle.unit77.specs.CardPrograms.{AreUnitsOf}
 use Rattle.unit77.specs.Programs.{ProgramUnit}

@@ -12,15 +12,15 @@ use Rattle.text_base.specs.declared.refusal.Refusal.{Refusal}
 use Rattle.tree77.specs.CardSpelling.{SpellsCard}
 use Rattle.tree77.specs.Statements as s
 use Rattle.tree77.specs.Statements.{Statement}
-use Rattle.unit77.specs.declared.mark.Mark.{Mark}
-use Rattle.unit77.specs.declared.mark.Sort.{Sort}
-use Rattle.unit77.specs.declared.mark.Sort.TheVariants.{Plain, Leaving}
+use Rattle.order77.specs.declared.mark.Mark.{Mark}
+use Rattle.order77.specs.declared.mark.Sort.{Sort}
+use Rattle.order77.specs.declared.mark.Sort.TheVariants.{Plain, Leaving}
 use Rattle.unit77.specs.CardPrograms.{SpellsLine, SpellLines, AreUnitsOf}
-use Rattle.unit77.specs.Counts.{Reading, counts_as, counts_of, counts_nothing, counts_action, is_end, is_first, is_misplaced}
-use Rattle.unit77.specs.FileRefusals.{own_names, name_or_main}
-use Rattle.unit77.specs.Nesting.{sort_of, is_executable, Nests}
+use Rattle.order77.specs.Counts.{Reading, counts_as, counts_of, counts_nothing, counts_action, is_end, is_first, is_misplaced, sort_of}
+use Rattle.order77.specs.Naming.{own_names, name_or_main}
+use Rattle.unit77.specs.Nesting.{is_executable, Nests}
 use Rattle.unit77.specs.Programs.{ProgramUnit, IsUnit, AreUnits, reading_of, those, is_header, is_declared, is_function}
-use Rattle.unit77.specs.Settling.{as_function, arrays_ahead, functions_behind, is_text, settled, settled_as}
+use Rattle.order77.specs.Settling.{as_function, arrays_ahead, functions_behind, is_text, settled, settled_as}
 use Rattle.unit77.specs.Tree as nest
 use Rattle.unit77.specs.Tree.{Line, Items, flat, first_line}
 use Rattle.unit77.specs.Units.{uses_among, is_late}

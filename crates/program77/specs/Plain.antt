@@ -3,7 +3,7 @@ use Rattle.std.specs.Prelude.{◌&&◌, ◌==◌, Bool, true, false, List, [], �
 use Rattle.text_base.specs.Trees as t
 use Rattle.tree77.specs.Statements as s
 use Rattle.tree77.specs.Statements.{Statement}
-use Rattle.unit77.specs.FileRefusals.{own_names, name_or_main}
+use Rattle.order77.specs.Naming.{own_names, name_or_main}
 use Rattle.unit77.specs.Programs.{ProgramUnit}
 use Rattle.unit77.specs.Tree as u
 use Rattle.unit77.specs.Tree.{Line, Items, first_line}

@@ -10,7 +10,7 @@ use Rattle.program77.specs.Tree as tree
 use Rattle.program77.specs.Tree.{Code, done, item, SourceUnit, SourceProgram}
 use Rattle.program77.specs.Typing.{is_typed}
 use Rattle.tree77.specs.Statements.{Statement}
-use Rattle.unit77.specs.Counts.{Reading}
+use Rattle.order77.specs.Counts.{Reading}
 use Rattle.parse77.specs.Reading.{Outcome, accepted, rejected, card_outcome}
 use Rattle.parse77.specs.Statement.{deck_refusals}
 

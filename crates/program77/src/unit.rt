@@ -1,5 +1,5 @@
 // The main program that a file is.
-ghost use Rattle.std.specs.Prelude.{◌≡◌, map};
+ghost use Rattle.std.specs.Prelude.{◌≡◌, ◌∷◌, [], map, IfSome};
 ghost use Rattle.std.specs.List.{list_all};
 ghost use Rattle.std.specs.Option.{option_map};
 ghost use Rattle.text_base.specs.Trees as plain;
@@ -10,11 +10,11 @@ ghost use Rattle.unit77.specs.UnitViews.{declared_line, function_line, header_li
 ghost use Rattle.unit77.specs.Views.{item_of};
 ghost use Rattle.program77.specs.Built.{built_of, built_simple};
 ghost use Rattle.program77.specs.Plain.{are_converted, is_converted, is_converted_header, is_none, is_program, is_step, one_converted, source_of};
-ghost use Rattle.unit77.specs.FileRefusals.{header_name, name_or_main};
+ghost use Rattle.order77.specs.Naming.{header_name, name_or_main};
 
 use text_base::Name;
 use tree77::{Expr, Header77, Stmt77};
-use unit77::{Body77, DeclaredLine77, HeaderLine77, Item77, StmtFunction77, Unit77, Units77};
+use unit77::{Body77, DeclaredLine77, HeaderLine77, Item77, StmtFunction, Unit77, Units77};
 
 fn is_program(header: &Header77) -> bool
     ensures { result ≡ is_program (built_of (s.header (header_of header.now))) }
@@ -84,7 +84,7 @@ fn has_no_declarations(declared: &[DeclaredLine77]) -> bool
     matches!(declared, [])
 }
 
-fn has_no_functions(functions: &[StmtFunction77]) -> bool
+fn has_no_functions(functions: &[StmtFunction]) -> bool
     ensures { result ≡ is_none (map function_line functions.now) }
 {
     matches!(functions, [])
@@ -108,7 +108,8 @@ fn is_converted(unit: &Unit77) -> bool
 ///
 /// Out: the unit, if it is the only one and is converted; else `None`.
 pub fn main_program(mut units: Units77) -> Option<Unit77>
-    ensures { option_map source_of result ≡ one_converted (map unit_of units) }
+    ensures whole { IfSome result (λ u. units ≡ u ∷ []) }
+    ensures converted { option_map source_of result ≡ one_converted (map unit_of units) }
 {
     let unit = units.pop()?;
     if units.is_empty() && is_converted(&unit) {

@@ -8,8 +8,8 @@ use Rattle.text_base.specs.Cards.{statement_lines, grouped, card_of, cards}
 use Rattle.text_base.specs.LineRefusals.{card_refusals}
 use Rattle.text_base.specs.Lines.{with_first, cut, without_return, lines, is_comment, is_initial}
 use Rattle.program77.specs.SourceReading.{read_of, reading_card}
-use Rattle.unit77.specs.ReadViews.{readings_from, readings_of}
-use Rattle.unit77.specs.declared.read.ReadStatement.{ReadStatement}
+use Rattle.order77.specs.ReadViews.{readings_from, readings_of}
+use Rattle.order77.specs.declared.read.ReadStatement.{ReadStatement}
 use Rattle.project_set.proofs.RefusalLemmas.{lines_accepted}
 
 -- ---- lines

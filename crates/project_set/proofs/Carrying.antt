@@ -8,7 +8,7 @@ use Rattle.program77.specs.Typing.{variables, code_names}
 use Rattle.program77.specs.Plain.{source_unit}
 use Rattle.program77.specs.Source.{IsSource}
 use Rattle.program77.specs.Layout.{Layout}
-use Rattle.program77.specs.Meaning.{Store, start77, run77, run_main}
+use Rattle.program77.specs.Meaning.{Store, start77, run_main}
 use Rattle.program77.specs.Meaning as flat
 use Rattle.tree90.specs.Meaning.{Objects, declared_in, AreDeclaredAs, IsStart, run90}
 use Rattle.tree90.specs.Meaning as nested

@@ -9,7 +9,7 @@ use Rattle.program77.specs.Plain.{one_converted, source_of}
 use Rattle.program77.specs.Source.{IsSource}
 use Rattle.program77.specs.Tree.{SourceUnit, SourceProgram}
 use Rattle.unit77.specs.CardPrograms.{AreUnitsOf}
-use Rattle.unit77.specs.Counts.{Reading}
+use Rattle.order77.specs.Counts.{Reading}
 use Rattle.unit77.specs.Laws.{IsProgram}
 use Rattle.unit77.specs.Programs.{ProgramUnit}
 use Rattle.unit77.specs.UnitViews.{unit_of}

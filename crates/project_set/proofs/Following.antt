@@ -5,7 +5,7 @@ use Rattle.text_base.specs.Trees.{Expr, int, bool, text, name, call, substring, 
 use Rattle.text_base.specs.Values.{Value, integer, RunFault, Undefined}
 use Rattle.text_base.specs.Operations.{Computed, computes, faults, unary_result, binary_result}
 use Rattle.text_base.specs.Runs.{Final, going, ended, fault, Out, gives, over, bind, close, tick, known, computed, How, normal}
-use Rattle.text_base.specs.Evaluation.{Storage, Call}
+use Rattle.text_base.specs.Evaluation.{Call}
 use Rattle.text_base.specs.Evaluation as e
 use Rattle.text_base.specs.declared.refusal.Place.{Place}
 use Rattle.program77.specs.Tree as source

@@ -1,12 +1,10 @@
 -- What assignments and PROGRAM statements are made of: their names are names, and their constants are in the range.
-use Rattle.std.proofs.Common.{◌≡◌, ◌⊎◌, ⊎_elim, ℕ, Bool, true, false, ◌&&◌, List, [], ◌∷◌, ◌++◌, codes, length, map, take, Option, Some, None, refl, sym, ap, ◌∙◌, subst}
-use Rattle.std.specs.Prelude.{◌≢◌, if◌then◌else◌}
-use Rattle.std.specs.List.{list_all}
+use Rattle.std.proofs.Common.{◌≡◌, ◌⊎◌, ⊎_elim, ℕ, Bool, true, false, List, [], codes, Some, None, refl, sym, ap, ◌∙◌, subst}
+use Rattle.std.specs.Prelude.{if◌then◌else◌}
 use Rattle.std.specs.Str.{bytes_eq}
-use Rattle.std.proofs.lemmas.Bool.{and_from, and_parts}
 use Rattle.std.proofs.lemmas.Option.{same_Some}
-use Rattle.text_base.specs.Chars.{is_upper, is_name_byte, is_name}
-use Rattle.text_base.specs.Pieces.{Piece, plain}
+use Rattle.text_base.specs.Chars.{is_name}
+use Rattle.text_base.specs.Pieces.{Piece}
 use Rattle.text_base.specs.Trees.{Expr}
 use Rattle.text_base.specs.Trees as tree
 use Rattle.tree77.specs.ControlForms as c
@@ -17,8 +15,7 @@ use Rattle.tree77.specs.Forms.{Form, Look, Matches, nothing, choice, told, refus
 use Rattle.tree77.specs.Kinds as kind
 use Rattle.tree77.specs.Kinds.{Kind, is_among}
 use Rattle.tree77.specs.Lexemes.{Part}
-use Rattle.tree77.specs.SpecificationForms as d
-use Rattle.tree77.specs.Spelling.{room_of, refused_actions, refused_declarations, refused_anywhere, stand_in, IsFormatBody, body_spelled, body_refused, IsPlainIf, if_labels, if_block, IsKeywordStatement, keyword_form, keyword_typed, keyword_if, IsSpelledAs, IsWideStatement, wide_plain, wide_logical}
+use Rattle.tree77.specs.Spelling.{room_of, refused_actions, refused_declarations, refused_anywhere, stand_in, IsFormatBody, body_spelled, body_refused, if_labels, if_block, IsKeywordStatement, keyword_form, keyword_typed, keyword_if, IsSpelledAs, IsWideStatement, wide_plain, wide_logical}
 use Rattle.tree77.specs.Statements as s
 use Rattle.tree77.specs.Statements.{Header, Simple, Statement}
 use Rattle.tree77.specs.TransferForms as t

@@ -14,7 +14,7 @@ use Rattle.program77.specs.Plain.{source_unit}
 use Rattle.program77.specs.SourceReading.{read_of, read_unit}
 use Rattle.program77.specs.Tree.{simple, continue, Code, done, item, SourceUnit, SourceProgram}
 use Rattle.program77.specs.Typing as source
-use Rattle.program77.specs.Typing.{first_seen, variables, is_integer_name, is_variable, is_typed}
+use Rattle.program77.specs.Typing.{variables, is_integer_name, is_variable, is_typed}
 use Rattle.text_base.specs.Remarks.{Remark}
 use Rattle.tree90.specs.Tree.{integer_object}
 use Rattle.tree90.specs.Printed.{printed}

@@ -24,7 +24,7 @@ use Rattle.tree90.specs.Printed.{action_text, stmt_text, declared_text, code_tex
 use Rattle.tree90.specs.Proper.{IsWritableCode}
 use Rattle.project_set.specs.Refusals.{program_name, is_short, is_built_as, is_built_card, unbuilt_refusals}
 use Rattle.project_set.specs.Rewrite.{comments_from, remarks_at, written_list, written_unit}
-use Rattle.project_set.proofs.RefusalLemmas.{all_built, IsBuiltAction, built_action}
+use Rattle.project_set.proofs.RefusalLemmas.{all_built, built_action}
 use Rattle.project_set.proofs.Seen.{all_first}
 use Rattle.project_set.proofs.ShortPieces.{has_no_feed, no_feed_append, no_feed_name, name_is_short, IsShortLines, short_nothing, short_append, short_indented}
 use Rattle.project_set.proofs.ShortRemarks.{are_short_remarks, are_short_comments, are_writable, remarks_append, remarks_are_short, remarks_at_are_short, comments_from_are_short}

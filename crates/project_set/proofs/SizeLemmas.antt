@@ -1,5 +1,5 @@
 -- A unit has as many statements as it was read from.
-use Rattle.std.proofs.Common.{◌≡◌, ℕ, suc, ◌+◌, List, [], ◌∷◌, length, Option, Some, None, IfSome, refl, ap, ◌∙◌, subst, arith}
+use Rattle.std.proofs.Common.{◌≡◌, ℕ, suc, ◌+◌, List, [], ◌∷◌, length, Option, Some, None, IfSome, refl, ap, subst, arith}
 use Rattle.std.specs.Option.{option_and_then}
 use Rattle.text_base.specs.declared.refusal.Place.{Place}
 use Rattle.program77.specs.Plain.{code_of}

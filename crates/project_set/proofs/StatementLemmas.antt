@@ -11,8 +11,8 @@ use Rattle.text_base.specs.declared.refusal.Refusal.{Refusal}
 use Rattle.card_reader.specs.Deck.{card_of}
 use Rattle.card_reader.specs.declared.card.Card.{Card}
 use Rattle.program77.specs.SourceReading.{ReadCard, read_card, read_of, reading_card}
-use Rattle.unit77.specs.ReadViews.{reading_at, readings_from, readings_of}
-use Rattle.unit77.specs.declared.read.ReadStatement.{ReadStatement}
+use Rattle.order77.specs.ReadViews.{reading_at, readings_from, readings_of}
+use Rattle.order77.specs.declared.read.ReadStatement.{ReadStatement}
 use Rattle.project_set.specs.Refusals.{program_name, is_built_as, is_built_card, not_built_at, unbuilt_refusals}
 
 -- the refusals of some statements of a program of this name

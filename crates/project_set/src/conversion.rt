@@ -6,7 +6,7 @@ ghost use Rattle.text_base.specs.LineRefusals.{card_refusals};
 ghost use Rattle.card_reader.specs.Deck.{card_of, deck_comments};
 ghost use Rattle.program77.specs.Plain.{source_of};
 ghost use Rattle.parse77.specs.Statement.{file_readings};
-ghost use Rattle.unit77.specs.ReadViews.{readings_of};
+ghost use Rattle.order77.specs.ReadViews.{readings_of};
 ghost use Rattle.project_set.specs.Comments.{ArePlaced};
 ghost use Rattle.tree90.specs.Printed.{printed};
 ghost use Rattle.project_set.specs.Conversion.{IsConvertible, IsConversion, RefusesWith, program_map};
@@ -25,12 +25,13 @@ use crate::rewrite::rewritten;
 use crate::variables::variables;
 use card_reader::{CardsError, Deck, read_cards};
 use free_printer::print;
+use order77::ReadStatement;
 use parse77::{ParseError, files_are_units, read_accepted};
 use program77::{main_program, sources_are_read, unit_name};
 use std::alloc::{AllocError, Global};
 use text_base::{Bytes, Refusals, not_built};
 use thiserror::Error;
-use unit77::{ReadStatement, Unit77, nest_units};
+use unit77::{Unit77, nest_units};
 
 /// The texts that are written for one file.
 #[derive(Debug, Drop)]
@@ -189,7 +190,8 @@ fn written_texts(alloc: Global, source: Source) -> Result<Outputs, AllocError>
 ///
 /// Out: the text of the program, the map of its storage, and the report. Where something is refused of the bytes, `Refused` with
 /// all refusals of the first phase that has any: of the lines, of the statements and the units that they are, of statements that
-/// aren't converted yet, of them as one main program. `Memory` may come in place of either where memory is wanted, and tells nothing of the file.
+/// aren't converted yet, of them as one main program. `Memory` may come in place of either where memory is wanted, and tells
+/// nothing of the file.
 pub fn convert(alloc: Global, bytes: &[u8]) -> Result<Outputs, ConvertError>
     ensures converts { IfOk result (λ o. IsConversion bytes.now o.text o.map o.report) }
     ensures headline { IfOk result (λ o. IsFaithful bytes.now o.text o.map) }

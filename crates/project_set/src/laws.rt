@@ -1,7 +1,6 @@
 // What holds of what is written.
 ghost use Rattle.project_set.specs.Laws.{WrittenIsProper, ConversionsDoTheSame};
 
-use parse77::statements_are_spelled;
 use program77::sources_are_read;
 use tree90::{one_reading, printed_is_read};
 
@@ -11,7 +10,6 @@ use tree90::{one_reading, printed_is_read};
 pub fn written_is_proper()
     ensures { WrittenIsProper }
 {
-    statements_are_spelled();
     sources_are_read();
 }
 

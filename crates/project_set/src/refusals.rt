@@ -1,5 +1,5 @@
 // What is refused of the statements of a file.
-ghost use Rattle.std.specs.Prelude.{ℕ, ◌≡◌, ◌&&◌, ◌∷◌, ◌++◌, [], map, flat_map, IfOk, OnOk};
+ghost use Rattle.std.specs.Prelude.{ℕ, ◌≡◌, ◌&&◌, ◌∷◌, ◌++◌, [], map, IfOk, OnOk};
 ghost use Rattle.std.specs.List.{list_all};
 ghost use Rattle.std.specs.Option.{option_and_then};
 ghost use Rattle.text_base.specs.Names.{expr_names};
@@ -10,19 +10,19 @@ ghost use Rattle.program77.specs.Built.{action, built_of, built_simple};
 ghost use Rattle.tree77.specs.StatementPlain.{header_of, simple_of, statement_of};
 ghost use Rattle.tree77.specs.Statements as s;
 ghost use Rattle.program77.specs.Typing.{is_integer_name, is_variable};
-ghost use Rattle.unit77.specs.ReadViews.{reading_at, readings_of};
+ghost use Rattle.order77.specs.ReadViews.{reading_at, readings_of};
 ghost use Rattle.program77.specs.SourceReading.{header_name, read_of, reading_card};
 ghost use Rattle.tree90.specs.Proper.{is_sign, is_additive};
 ghost use Rattle.project_set.specs.Refusals.{program_name, is_free_name, is_built_operand, is_built, is_built_statement, is_built_as, not_built_at, unbuilt_refusals};
 
 use card_reader::Card;
 use free_printer::is_short_assignment;
+use order77::ReadStatement;
 use parse77::shown;
 use sqlite_items::Items;
 use std::alloc::{AllocError, Global};
 use text_base::{Cause, Name, Refusal, Refusals};
 use tree77::{BinaryOp, Expr, Header77, Statement77, Stmt77, UnaryOp};
-use unit77::ReadStatement;
 
 // The name that a header gives to a program, if it is a PROGRAM statement.
 fn header_program(header: &Header77) -> Option<Name>

@@ -1,5 +1,5 @@
 // The variables of a unit, by first appearance.
-ghost use Rattle.std.specs.Prelude.{◌≡◌, map, flat_map, IfOk, OnOk};
+ghost use Rattle.std.specs.Prelude.{◌≡◌, map, IfOk, OnOk};
 ghost use Rattle.std.specs.Option.{option_map};
 ghost use Rattle.text_base.specs.Names.{expr_names, exprs_names, bound_names};
 ghost use Rattle.expr_tree.specs.Plain.{expr_of, exprs_of, bound_of};

@@ -8,21 +8,21 @@ use Rattle.tree77.specs.StatementPlain.{declared_of, simple_of, statement_of}
 use Rattle.tree77.specs.declared.statement.Statement77.{Statement77}
 use Rattle.tree77.specs.declared.statement.Statement77.TheVariants as code
 use Rattle.tree77.specs.Statements as s
-use Rattle.tree77.specs.Statements.{Statement, header, declared, statement_function, guarded, if_then, else_if, else_, end_if, do_, end}
-use Rattle.unit77.specs.declared.mark.Mark.{Mark}
-use Rattle.unit77.specs.declared.mark.Sort.{Sort}
-use Rattle.unit77.specs.declared.mark.Sort.TheVariants.{Leaving}
+use Rattle.tree77.specs.Statements.{Statement, header, declared, statement_function, guarded, end}
+use Rattle.order77.specs.declared.mark.Mark.{Mark}
+use Rattle.order77.specs.declared.mark.Sort.{Sort}
+use Rattle.order77.specs.declared.mark.Sort.TheVariants.{Leaving}
 use Rattle.unit77.specs.declared.tree.HeaderLine77.{HeaderLine77}
 use Rattle.std.specs.Option.{option_map}
-use Rattle.unit77.specs.declared.read.ReadStatement.{ReadStatement}
+use Rattle.order77.specs.declared.read.ReadStatement.{ReadStatement}
 use Rattle.unit77.specs.declared.units.Gathering.{Gathering}
 use Rattle.unit77.specs.declared.units.Building.{Building}
 use Rattle.unit77.specs.declared.tree.Unit77.{Unit77}
 use Rattle.unit77.specs.Tree.{Line}
-use Rattle.unit77.specs.Nesting.{mark, sort, sort_of, is_executable, IsNesting}
+use Rattle.order77.specs.Counts.{sort_of, Reading, counts_of, is_end, is_first, is_misplaced}
+use Rattle.unit77.specs.Nesting.{mark, sort, is_executable, IsNesting}
 use Rattle.unit77.specs.Running.{Open, State, heads, step, fits, run, start, end_of}
 use Rattle.unit77.specs.Refusals.{at_end, shown}
-use Rattle.unit77.specs.Counts.{Reading, counts_of, is_end, is_first, is_misplaced}
 use Rattle.unit77.specs.Units.{mark_as, open_behind, strays_at, end_strays, strays_behind, missing}
 use Rattle.unit77.specs.Programs.{reading_of, those, is_header, is_declared, is_function, first_of, ProgramUnit, IsUnit, AreUnits}
 use Rattle.unit77.specs.Views.{state_of, stack_of}

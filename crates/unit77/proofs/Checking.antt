@@ -5,10 +5,10 @@ use Rattle.std.proofs.lemmas.List.{length-map, same_from_push}
 use Rattle.std.proofs.lemmas.List.Elements.{All-append}
 use Rattle.std.proofs.lemmas.List.Sums.{fold-append}
 use Rattle.std.proofs.Math.Seq.{append_snoc, set-append_seam}
-use Rattle.unit77.specs.declared.mark.Mark.{Mark}
-use Rattle.unit77.specs.declared.mark.Sort.{Sort}
-use Rattle.unit77.specs.declared.mark.Sort.TheVariants.{Plain, Leaving, Do, If, ElseIf, Else, EndIf}
-use Rattle.unit77.specs.declared.mark.Stray.{Stray}
+use Rattle.order77.specs.declared.mark.Mark.{Mark}
+use Rattle.order77.specs.declared.mark.Sort.{Sort}
+use Rattle.order77.specs.declared.mark.Sort.TheVariants.{Plain, Leaving, Do, If, ElseIf, Else, EndIf}
+use Rattle.order77.specs.declared.mark.Stray.{Stray}
 use Rattle.unit77.specs.declared.loops.OpenLoop.{OpenLoop}
 use Rattle.unit77.specs.declared.checker.Checker.{Checker}
 use Rattle.unit77.specs.Nesting.{names, named}

@@ -4,9 +4,9 @@ use Rattle.std.specs.Prelude.{if◌then◌else◌}
 use Rattle.std.proofs.lemmas.Bool.{eqb-true, eq-eqb}
 use Rattle.unit77.specs.Tree.{Line}
 use Rattle.unit77.specs.Tree.{Items, done, simple, loop, block, Arms, last, arm, first_line, flat, flat_arms}
-use Rattle.unit77.specs.declared.mark.Sort.{Sort}
-use Rattle.unit77.specs.declared.mark.Sort.TheVariants.{Plain, Leaving, Do, If, ElseIf, Else, EndIf}
-use Rattle.unit77.specs.declared.mark.Mark.{Mark}
+use Rattle.order77.specs.declared.mark.Sort.{Sort}
+use Rattle.order77.specs.declared.mark.Sort.TheVariants.{Plain, Leaving, Do, If, ElseIf, Else, EndIf}
+use Rattle.order77.specs.declared.mark.Mark.{Mark}
 use Rattle.unit77.specs.Nesting.{mark, sort, names, named, innermost, Follows, Free, Nests, NestsArms, IsNesting}
 use Rattle.unit77.specs.Running.{join, Part, arms_before, Open, State, heads, state, opened, ended, moved, step, is_if, is_arm, in_own_list, fits_sort, run, start}
 

@@ -3,14 +3,14 @@ use Rattle.std.proofs.Common.{◌≡◌, ℕ, suc, List, [], ◌∷◌, ◌++◌
 use Rattle.std.specs.Option.{option_map}
 use Rattle.tree77.specs.StatementPlain.{statement_of}
 use Rattle.unit77.specs.Tree.{Line}
-use Rattle.unit77.specs.Counts.{Reading}
+use Rattle.order77.specs.Counts.{Reading}
 use Rattle.unit77.specs.FileRefusals.{file_refusals}
 use Rattle.unit77.specs.Laws.{AreReadOrRefused, IsProgram}
 use Rattle.unit77.specs.Programs.{ProgramUnit, reading_of, AreUnits}
-use Rattle.unit77.specs.ReadViews.{reading_at, readings_from, readings_of}
+use Rattle.order77.specs.ReadViews.{reading_at, readings_from, readings_of}
 use Rattle.unit77.specs.Units.{file_strays}
 use Rattle.unit77.specs.UnitViews.{lines_at, lines_from}
-use Rattle.unit77.specs.declared.read.ReadStatement.{ReadStatement}
+use Rattle.order77.specs.declared.read.ReadStatement.{ReadStatement}
 use Rattle.unit77.proofs.Program.{program_of}
 use Rattle.unit77.proofs.UnitLaw.{units_pass}
 

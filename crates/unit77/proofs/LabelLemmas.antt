@@ -6,8 +6,8 @@ use Rattle.std.proofs.lemmas.Bool.{eqb-true}
 use Rattle.std.proofs.lemmas.List.Sums.{fold-append}
 use Rattle.std.proofs.lemmas.List.Elements.{filter_agree}
 use Rattle.unit77.specs.Units.{different}
-use Rattle.unit77.specs.NameSets.{with_one, with_labels}
-use Rattle.unit77.proofs.NameLemmas.{among_one}
+use Rattle.order77.specs.NameSets.{with_one, with_labels}
+use Rattle.order77.proofs.NameLemmas.{among_one}
 
 abbrev same : ℕ → ℕ → Bool
 same x y = x == y

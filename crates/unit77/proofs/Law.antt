@@ -2,14 +2,14 @@
 use Rattle.std.proofs.Common.{◌≡◌, ℕ, Bool, true, false, not, ◌&&◌, ◌||◌, List, [], ◌∷◌, ◌++◌, map, Option, Some, None, refl, sym, ap, ◌∙◌, subst}
 use Rattle.std.specs.Prelude.{if◌then◌else◌, is_some}
 use Rattle.unit77.specs.Tree.{Line}
-use Rattle.unit77.specs.declared.mark.Stray.{Stray}
+use Rattle.order77.specs.declared.mark.Stray.{Stray}
 use Rattle.unit77.specs.Laws.{NestsOrNot, OneNesting}
 use Rattle.unit77.proofs.Complete.{found, one_nesting}
 use Rattle.unit77.proofs.Sound.{nests}
 use Rattle.unit77.specs.Tree.{Items, done, simple, loop}
-use Rattle.unit77.specs.declared.mark.Sort.{Sort}
-use Rattle.unit77.specs.declared.mark.Sort.TheVariants.{Plain, Leaving, Do, If, ElseIf, Else, EndIf}
-use Rattle.unit77.specs.declared.mark.Mark.{Mark}
+use Rattle.order77.specs.declared.mark.Sort.{Sort}
+use Rattle.order77.specs.declared.mark.Sort.TheVariants.{Plain, Leaving, Do, If, ElseIf, Else, EndIf}
+use Rattle.order77.specs.declared.mark.Mark.{Mark}
 use Rattle.unit77.specs.Nesting.{mark, sort, names, named, IsNesting}
 use Rattle.unit77.specs.Running.{join, Open, State, heads, state, ended, moved, step, may_part, may_close, in_own_list, fits_sort, fits, end_of, run, start}
 use Rattle.unit77.specs.Refusals.{without, next_open, next, is_wrong, naming, strays, ended_wrongly, lacking, wrong, shown, is_loop, has_if, loops, unended, at_end, all_shown}

@@ -9,15 +9,10 @@ pub mod Numbered
 pub mod Program
 pub mod Building
 pub mod Checking
-pub mod StandingLemmas
-pub mod UseLemmas
-pub mod NameLemmas
 pub mod LabelLemmas
 pub mod Given
-pub mod Readings
 pub mod Passing
-pub mod NamingLemmas
 pub mod SlotLemmas
-pub mod SettlingLemmas
-pub mod SettledEach
 pub mod InOrder
+pub mod OwnListLemmas
+pub mod LackingLemmas

@@ -2,15 +2,15 @@
 use Rattle.std.proofs.Common.{ℕ, Bool, true, false, ◌||◌, List, [], ◌∷◌, ◌++◌, map, fold, Option, Some, None}
 use Rattle.std.specs.Prelude.{nat_le, not, length, if◌then◌else◌}
 use Rattle.unit77.specs.declared.limits.TheConstants.{MOST_LABELS}
-use Rattle.unit77.specs.declared.mark.Sort.{Sort}
-use Rattle.unit77.specs.declared.mark.Sort.TheVariants.{Plain, Leaving, Do, If, ElseIf, Else, EndIf}
-use Rattle.unit77.specs.declared.mark.Mark.{Mark}
-use Rattle.unit77.specs.declared.mark.Stray.{Stray}
-use Rattle.unit77.specs.declared.mark.Fault.TheVariants as fault
+use Rattle.order77.specs.declared.mark.Sort.{Sort}
+use Rattle.order77.specs.declared.mark.Sort.TheVariants.{Plain, Leaving, Do, If, ElseIf, Else, EndIf}
+use Rattle.order77.specs.declared.mark.Mark.{Mark}
+use Rattle.order77.specs.declared.mark.Stray.{Stray}
+use Rattle.order77.specs.declared.mark.Fault.TheVariants as fault
 use Rattle.unit77.specs.Nesting.{names, named}
 use Rattle.unit77.specs.Running.{may_part, may_close}
 use Rattle.unit77.specs.Refusals.{without, outer, next_open, is_wrong, naming, strays, ended_wrongly, lacking, wrong, shown, is_loop, has_if, loops, unended, at_end}
-use Rattle.unit77.specs.Counts.{Reading, counts_as, is_first, sort_in, is_end}
+use Rattle.order77.specs.Counts.{Reading, counts_as, is_first, sort_in, is_end}
 use Rattle.unit77.specs.Units.{mark_as, open_behind, open_after, jumps_among, stray, strays_where, is_deep, nesting_strays, is_out_of_order, strays_at, different, end_strays, missing, strays_behind, file_strays}
 
 abbrev pub Each : {A : Type 0} → (A → Type 0) → List A → Type 0

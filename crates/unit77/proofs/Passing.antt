@@ -5,24 +5,24 @@ use Rattle.std.specs.List.{list_any}
 use Rattle.std.proofs.lemmas.List.Sums.{fold-append}
 use Rattle.std.proofs.lemmas.Grind.{common_steps}
 use Rattle.unit77.specs.declared.limits.TheConstants.{MOST_LABELS}
-use Rattle.unit77.specs.declared.mark.Sort.{Sort}
-use Rattle.unit77.specs.declared.mark.Sort.TheVariants.{Leaving}
-use Rattle.unit77.specs.declared.mark.Stray.{Stray}
-use Rattle.unit77.specs.declared.mark.Fault.TheVariants as fault
-use Rattle.unit77.specs.declared.read.ReadStatement.{ReadStatement}
+use Rattle.order77.specs.declared.mark.Sort.{Sort}
+use Rattle.order77.specs.declared.mark.Sort.TheVariants.{Leaving}
+use Rattle.order77.specs.declared.mark.Stray.{Stray}
+use Rattle.order77.specs.declared.mark.Fault.TheVariants as fault
+use Rattle.order77.specs.declared.read.ReadStatement.{ReadStatement}
 use Rattle.unit77.specs.declared.checker.Checker.{Checker}
 use Rattle.unit77.specs.declared.check.Pass.{Pass}
 use Rattle.unit77.specs.Checking.{open_of}
-use Rattle.unit77.specs.Counts.{Reading, counts_as, is_end, sort_in}
-use Rattle.unit77.specs.Names.{is_among}
-use Rattle.unit77.specs.NameSets.{with_names, with_labels}
+use Rattle.order77.specs.Counts.{Reading, counts_as, is_end, sort_in}
+use Rattle.order77.specs.Names.{is_among}
+use Rattle.order77.specs.NameSets.{with_names, with_labels}
 use Rattle.unit77.specs.Passing.{IsPass, IsGoing}
-use Rattle.unit77.specs.ReadViews.{reading_at, readings_from}
+use Rattle.order77.specs.ReadViews.{reading_at, readings_from}
 use Rattle.unit77.specs.Refusals.{at_end}
 use Rattle.unit77.specs.Units.{different, mark_as, open_behind, open_after, jumps_among, stray, strays_where, is_out_of_order, nesting_strays, strays_at, end_strays, missing, strays_behind}
-use Rattle.unit77.proofs.NameLemmas.{among_all}
+use Rattle.order77.proofs.NameLemmas.{among_all}
 use Rattle.unit77.proofs.LabelLemmas.{labels_different}
-use Rattle.unit77.proofs.Readings.{readings_more, readings_done}
+use Rattle.order77.proofs.Readings.{readings_more, readings_done}
 
 -- a constant is late by the set of the names that were used
 pub late_same : (held before xs : List (List ℕ)) → held ≡ with_names [] before → list_any (is_among held) xs ≡ list_any (is_among before) xs

@@ -7,16 +7,16 @@ use Rattle.std.proofs.lemmas.List.Sums.{fold-append}
 use Rattle.tree77.specs.Statements as s
 use Rattle.tree77.specs.Statements.{Declared, Simple, Statement, header, declared, statement_function, guarded, if_then, else_if, else_, end_if, do_, end}
 use Rattle.unit77.specs.declared.limits.TheConstants.{MOST_NESTED}
-use Rattle.unit77.specs.declared.mark.Sort.{Sort}
-use Rattle.unit77.specs.declared.mark.Sort.TheVariants.{Plain, Leaving, Do, If, ElseIf, Else, EndIf}
-use Rattle.unit77.specs.declared.mark.Mark.{Mark}
-use Rattle.unit77.specs.declared.mark.Stray.{Stray}
-use Rattle.unit77.specs.declared.mark.Fault.TheVariants as fault
+use Rattle.order77.specs.declared.mark.Sort.{Sort}
+use Rattle.order77.specs.declared.mark.Sort.TheVariants.{Plain, Leaving, Do, If, ElseIf, Else, EndIf}
+use Rattle.order77.specs.declared.mark.Mark.{Mark}
+use Rattle.order77.specs.declared.mark.Stray.{Stray}
+use Rattle.order77.specs.declared.mark.Fault.TheVariants as fault
 use Rattle.unit77.specs.Tree.{Line}
-use Rattle.unit77.specs.Nesting.{mark, names, sort, sort_of, simple_sort, is_executable}
+use Rattle.order77.specs.Counts.{sort_of, simple_sort, Reading, counts_declared, counts_simple, counts_of, sort_in, is_end}
+use Rattle.unit77.specs.Nesting.{mark, names, sort, is_executable}
 use Rattle.unit77.specs.Running.{may_part, may_close, is_if, is_arm}
 use Rattle.unit77.specs.Refusals.{without, outer, next_open, shown, at_end, all_shown}
-use Rattle.unit77.specs.Counts.{Reading, counts_declared, counts_simple, counts_of, sort_in, is_end}
 use Rattle.unit77.specs.Units.{mark_as, open_behind, open_after, stray, strays_where, begins, is_deep, nesting_strays, is_out_of_order, strays_at}
 use Rattle.unit77.specs.Programs.{reading_of, those}
 use Rattle.unit77.proofs.OneProgram.{head_is, tail_is, not_empty}

@@ -1,5 +1,7 @@
 -- The equations of the views.
 use Rattle.std.proofs.Common.{◌≡◌, ℕ, true, false, Option, List, [], ◌∷◌, ◌++◌, map, refl, sym, ap, ◌∙◌}
+use Rattle.std.specs.Prelude.{◌==◌}
+use Rattle.std.proofs.lemmas.Bool.{eq-eqb}
 use Rattle.std.proofs.lemmas.List.{map-append}
 use Rattle.std.proofs.lemmas.List.Sums.{fold-append}
 use Rattle.text_base.specs.declared.refusal.Place.{Place}
@@ -19,10 +21,10 @@ use Rattle.unit77.specs.declared.nester.Construct.TheVariants as construct
 use Rattle.unit77.specs.declared.nester.Open as code
 use Rattle.unit77.specs.declared.nester.Spot.{Spot}
 use Rattle.unit77.proofs.Complete.{join_done, join_assoc}
-use Rattle.unit77.specs.Nesting.{simple_sort}
+use Rattle.order77.specs.Counts.{simple_sort}
 use Rattle.unit77.specs.Tree.{Line, Items, done, simple, loop, block, last, arm}
 use Rattle.unit77.specs.Running.{Part, Open, join, arms_before, state, parted, closed, moved, ended}
-use Rattle.unit77.specs.Views.{line, ArmPart, later, arm_statement, parts_of, open_arm, Placed, parts_from, arms_from, do_statement, body_step, arm_step, item_step, body_of, item_of, arm_of, items_of, arms_in, head_in, open_of, pushed, stack_of}
+use Rattle.unit77.specs.Views.{line, is_at, ArmPart, later, arm_statement, parts_of, open_arm, Placed, parts_from, arms_from, do_statement, body_step, arm_step, item_step, body_of, item_of, arm_of, items_of, arms_in, head_in, open_of, pushed, stack_of}
 
 body_roll : (x : Body77-F Body77 Arm77 Item77) → body_of (roll-Body77 x) ≡ body_step (map-Body77 Body77 Arm77 Item77 Placed ArmPart Items body_of arm_of item_of x)
 unfolding body_of arm_of item_of
@@ -63,9 +65,10 @@ arms_last (q ∷ r ∷ ps) p = ap (arm q.head q.items) (arms_last (r ∷ ps) p)
 pub parts_more : (at here : Spot) (test : Option Expr) (is : Items) (arms : List Arm77) (a : Arm77)
     → arm_of a ≡ record { number = here.number; label = here.label; place = here.place; test = test; items = is }
     → parts_of at (arms ++ a ∷ []) ≡ parts_of at arms ++ record { head = open_arm at arms here test; items = is } ∷ []
-parts_more at here test is [] a e = ap (λ (x : ArmPart). record { head = line at.number at.label at.place (arm_statement true x.test); items = x.items } ∷ []) e
+parts_more at here test is [] a e =
+    ap (λ (x : ArmPart). record { head = line at.number at.label at.place (arm_statement (is_at at.number at.label at.place x.number x.label x.place) x.test); items = x.items } ∷ []) e
 parts_more at here test is (b ∷ bs) a e =
-    ap (λ ps. record { head = line at.number at.label at.place (arm_statement true (arm_of b).test); items = (arm_of b).items } ∷ ps)
+    ap (λ ps. record { head = line at.number at.label at.place (arm_statement (is_at at.number at.label at.place (arm_of b).number (arm_of b).label (arm_of b).place) (arm_of b).test); items = (arm_of b).items } ∷ ps)
     (ap (map later) (map-append arm_of bs (a ∷ [])) ∙ map-append later (map arm_of bs) (arm_of a ∷ []) ∙ ap (λ (x : ArmPart). map later (map arm_of bs) ++ later x ∷ []) e)
 
 -- behind some arms the next one is a later one
@@ -127,6 +130,13 @@ simple_moved (s.open_ c) l is os = refl
 simple_moved (s.close_ c) l is os = refl
 simple_moved (s.rewind c) l is os = refl
 
-pub ruleset taking = (simple_moved, body_simple, body_guarded)
+-- an IF begins where it stands
+same : (n : ℕ) → (n == n) ≡ true
+same n = eq-eqb n n refl
+
+pub at_itself : (n l : ℕ) (p : Place) → is_at n l p n l p ≡ true
+at_itself n l p = rw (same n, same l, same p.file, same p.line) refl
+
+pub ruleset taking = (simple_moved, body_simple, body_guarded, at_itself)
 
 pub ruleset pushes = (items_more, open_more, stack_more, body_loop, body_block)

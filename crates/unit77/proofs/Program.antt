@@ -4,12 +4,13 @@ use Rattle.std.specs.Prelude.{if◌then◌else◌, flat_map}
 use Rattle.std.specs.List.{list_any, filter}
 use Rattle.tree77.specs.Statements.{Statement}
 use Rattle.text_base.specs.declared.refusal.Refusal.{Refusal}
-use Rattle.unit77.specs.declared.mark.Stray.{Stray}
+use Rattle.order77.specs.declared.mark.Stray.{Stray}
 use Rattle.unit77.specs.Tree.{Line}
-use Rattle.unit77.specs.Names.{as_list}
-use Rattle.unit77.specs.Counts.{Reading}
+use Rattle.order77.specs.Names.{as_list}
+use Rattle.order77.specs.Counts.{Reading}
 use Rattle.unit77.specs.Units.{file_strays}
-use Rattle.unit77.specs.FileRefusals.{last_name, fault_refusal, is_lower, first_lowest, faults_of, refusals_at, file_refusals}
+use Rattle.order77.specs.Naming.{last_name}
+use Rattle.unit77.specs.FileRefusals.{fault_refusal, is_lower, first_lowest, faults_of, refusals_at, file_refusals}
 use Rattle.unit77.specs.Programs.{reading_of, ProgramUnit}
 use Rattle.unit77.specs.Laws.{AreReadOrRefused, IsProgram, ProgramOrNot}
 use Rattle.unit77.proofs.Places.{both_empty}

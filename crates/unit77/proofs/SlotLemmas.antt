@@ -14,16 +14,17 @@ use Rattle.std.proofs.lemmas.List.Sums.{fold-append}
 use Rattle.std.proofs.lemmas.Option.{slice_get-get_or, get_or_from_slice_get}
 use Rattle.text_base.specs.Causes.{cause_number}
 use Rattle.text_base.specs.declared.refusal.Refusal.{Refusal}
-use Rattle.unit77.specs.declared.mark.Fault.{Fault}
-use Rattle.unit77.specs.declared.mark.Stray.{Stray}
-use Rattle.unit77.specs.declared.read.ReadStatement.{ReadStatement}
-use Rattle.unit77.specs.Counts.{Reading}
-use Rattle.unit77.specs.FileRefusals.{fault_refusal, faults_of, first_lowest, is_lower, last_name, refusals_at}
-use Rattle.unit77.specs.Names.{as_list}
-use Rattle.unit77.specs.ReadViews.{reading_at, readings_from, readings_of}
+use Rattle.order77.specs.declared.mark.Fault.{Fault}
+use Rattle.order77.specs.declared.mark.Stray.{Stray}
+use Rattle.order77.specs.declared.read.ReadStatement.{ReadStatement}
+use Rattle.order77.specs.Counts.{Reading}
+use Rattle.order77.specs.Naming.{last_name}
+use Rattle.unit77.specs.FileRefusals.{fault_refusal, faults_of, first_lowest, is_lower, refusals_at}
+use Rattle.order77.specs.Names.{as_list}
+use Rattle.order77.specs.ReadViews.{reading_at, readings_from, readings_of}
 use Rattle.unit77.specs.Slots.{AreLowest, keep_fault, keep_refusal, lowest_of, rank, refusal_with}
 use Rattle.unit77.specs.Units.{file_strays}
-use Rattle.unit77.proofs.Readings.{readings_more, readings_done}
+use Rattle.order77.proofs.Readings.{readings_more, readings_done}
 
 -- ---- the first of the lowest refusals is the one that is kept
 

@@ -4,9 +4,9 @@ use Rattle.std.specs.Prelude.{if◌then◌else◌}
 use Rattle.std.proofs.lemmas.Bool.{eqb-true}
 use Rattle.unit77.specs.Tree.{Line}
 use Rattle.unit77.specs.Tree.{Items, done, simple, loop, block, Arms, last, arm, first_line, flat, flat_arms}
-use Rattle.unit77.specs.declared.mark.Sort.{Sort}
-use Rattle.unit77.specs.declared.mark.Sort.TheVariants.{Plain, Leaving, Do, If, ElseIf, Else, EndIf}
-use Rattle.unit77.specs.declared.mark.Mark.{Mark}
+use Rattle.order77.specs.declared.mark.Sort.{Sort}
+use Rattle.order77.specs.declared.mark.Sort.TheVariants.{Plain, Leaving, Do, If, ElseIf, Else, EndIf}
+use Rattle.order77.specs.declared.mark.Mark.{Mark}
 use Rattle.unit77.specs.Nesting.{mark, sort, names, named, Free, Nests, NestsArms, IsNesting}
 use Rattle.unit77.specs.Running.{join, arms_before, Open, State, heads, state, opened, ended, parted, closed, moved, step, is_if, is_arm, may_part, may_close, in_own_list, fits_sort, fits, end_of, run, start}
 use Rattle.unit77.proofs.Complete.{before_more, ended_free}

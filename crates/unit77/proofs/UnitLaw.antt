@@ -7,13 +7,13 @@ use Rattle.std.proofs.lemmas.List.{map-append}
 use Rattle.tree77.specs.Statements as s
 use Rattle.tree77.specs.Statements.{Declared, Simple, Statement, header, declared, statement_function, guarded, if_then, else_if, else_, end_if, do_, end}
 use Rattle.unit77.specs.declared.limits.TheConstants.{MOST_LABELS}
-use Rattle.unit77.specs.declared.mark.Sort.{Sort}
-use Rattle.unit77.specs.declared.mark.Sort.TheVariants.{Plain, Leaving}
-use Rattle.unit77.specs.declared.mark.Fault.TheVariants as fault
+use Rattle.order77.specs.declared.mark.Sort.{Sort}
+use Rattle.order77.specs.declared.mark.Sort.TheVariants.{Plain, Leaving}
+use Rattle.order77.specs.declared.mark.Fault.TheVariants as fault
 use Rattle.unit77.specs.Tree.{Line}
-use Rattle.unit77.specs.Nesting.{simple_sort, is_executable}
+use Rattle.order77.specs.Counts.{simple_sort, counts_nothing, counts_declared, counts_simple, counts_of, is_end, counts_as}
+use Rattle.unit77.specs.Nesting.{is_executable}
 use Rattle.unit77.specs.Refusals.{loops, lacking, at_end}
-use Rattle.unit77.specs.Counts.{counts_nothing, counts_declared, counts_simple, counts_of, is_end, counts_as}
 use Rattle.unit77.specs.Units.{mark_as, stray, strays_where, strays_at, jumps_among, different, end_strays, missing, strays_behind}
 use Rattle.unit77.specs.Programs.{reading_of, those, is_header, is_declared, is_function, first_of, ProgramUnit, IsUnit, AreUnits}
 use Rattle.unit77.proofs.Law.{is_nil, last_not_nil, nests_or_not}

@@ -3,7 +3,7 @@ use Rattle.std.specs.Prelude.{◌≡◌, ℕ, suc, List, [], ◌∷◌, map}
 use Rattle.text_base.specs.Cards.{Card}
 use Rattle.tree77.specs.CardSpelling.{SpellsCard}
 use Rattle.unit77.specs.Programs.{ProgramUnit, AreUnits, reading_of}
-use Rattle.unit77.specs.Settling.{settled}
+use Rattle.order77.specs.Settling.{settled}
 use Rattle.unit77.specs.Tree.{Line}
 
 -- a card with this number spells the statement of the line

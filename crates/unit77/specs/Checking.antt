@@ -1,7 +1,7 @@
 -- What the checker keeps of the constructs that were begun, and which are open by it.
 use Rattle.std.specs.Prelude.{◌≡◌, ◌==◌, ◌≤◌, ◌+◌, ℕ, suc, false, List, [], ◌∷◌, ◌++◌, length, fold, slice_set, Option, Some, None, if◌then◌else◌, nat_eq, is_some, IfNone}
 use Rattle.indexmap.specs.IndexMap.{get}
-use Rattle.unit77.specs.declared.mark.Mark.{Mark}
+use Rattle.order77.specs.declared.mark.Mark.{Mark}
 use Rattle.unit77.specs.declared.loops.OpenLoop.{OpenLoop}
 use Rattle.unit77.specs.declared.loops.OpenLoops.{OpenLoops}
 use Rattle.unit77.specs.declared.checker.Checker.{Checker}

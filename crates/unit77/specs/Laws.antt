@@ -1,10 +1,10 @@
 -- The laws of nesting.
 use Rattle.std.specs.Prelude.{◌≡◌, ◌≢◌, ℕ, suc, List, [], ◌∷◌, map, flat_map, None}
-use Rattle.unit77.specs.declared.mark.Mark.{Mark}
+use Rattle.order77.specs.declared.mark.Mark.{Mark}
 use Rattle.unit77.specs.Tree.{Line, Items}
 use Rattle.unit77.specs.Nesting.{mark, IsNesting}
 use Rattle.unit77.specs.Refusals.{all_shown}
-use Rattle.unit77.specs.Counts.{Reading}
+use Rattle.order77.specs.Counts.{Reading}
 use Rattle.unit77.specs.FileRefusals.{file_refusals}
 use Rattle.unit77.specs.Programs.{ProgramUnit, AreUnits, reading_of, unit_lines}
 

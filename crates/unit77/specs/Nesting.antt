@@ -1,31 +1,12 @@
 -- Which nested lists a unit may have (X3.9 sections 11.5 to 11.10). `open_` are the statements that the DOs and arms begin with
 -- in which a place stands, the innermost first.
 use Rattle.std.specs.Prelude.{◌≡◌, ◌⊎◌, ◌==◌, ◌||◌, ℕ, Bool, true, false, List, [], ◌∷◌}
-use Rattle.tree77.specs.Statements as s
-use Rattle.tree77.specs.Statements.{Simple, Statement, header, declared, statement_function, guarded, if_then, else_if, else_, end_if, do_, end}
-use Rattle.unit77.specs.declared.mark.Sort.{Sort}
-use Rattle.unit77.specs.declared.mark.Sort.TheVariants.{Plain, Leaving, Do, If, ElseIf, Else, EndIf}
-use Rattle.unit77.specs.declared.mark.Mark.{Mark}
+use Rattle.tree77.specs.Statements.{Statement, header, declared, statement_function, end}
+use Rattle.order77.specs.declared.mark.Sort.{Sort}
+use Rattle.order77.specs.declared.mark.Sort.TheVariants.{Plain, Leaving, Do, If, ElseIf, Else, EndIf}
+use Rattle.order77.specs.declared.mark.Mark.{Mark}
+use Rattle.order77.specs.Counts.{sort_of}
 use Rattle.unit77.specs.Tree.{Line, Items, done, simple, loop, block, Arms, last, arm, first_line, flat}
-
--- the sort of a simple statement; GO TO, arithmetic IF, RETURN and STOP are no terminal statements (X3.9 section 11.10)
-abbrev pub simple_sort : Simple → Sort
-simple_sort (s.goto l) = Leaving
-simple_sort (s.arithmetic x a b c) = Leaving
-simple_sort s.return_ = Leaving
-simple_sort (s.stop c) = Leaving
-simple_sort _ = Plain
-
--- The sort of an executable statement. Others have none; END is no terminal statement.
-abbrev pub sort_of : Statement → Sort
-sort_of (s.simple a) = simple_sort a
-sort_of (guarded e a) = Plain
-sort_of (do_ t r) = Do t
-sort_of (if_then e) = If
-sort_of (else_if e) = ElseIf
-sort_of else_ = Else
-sort_of end_if = EndIf
-sort_of _ = Leaving
 
 -- it is executable, and not END (X3.9 section 7.1)
 abbrev pub is_executable : Statement → Bool

@@ -1,11 +1,11 @@
 -- What the pass over the statements of a file keeps of those of a unit so far.
 use Rattle.std.specs.Prelude.{◌≡◌, ℕ, List, [], ◌++◌}
-use Rattle.unit77.specs.declared.mark.Stray.{Stray}
+use Rattle.order77.specs.declared.mark.Stray.{Stray}
 use Rattle.unit77.specs.declared.check.Pass.{Pass}
 use Rattle.unit77.specs.Checking.{open_of}
-use Rattle.unit77.specs.Counts.{Reading}
-use Rattle.unit77.specs.NameSets.{names_in, labels_in, with_names, with_labels}
-use Rattle.unit77.specs.Standings.{standing_of}
+use Rattle.order77.specs.Counts.{Reading}
+use Rattle.order77.specs.NameSets.{names_in, labels_in, with_names, with_labels}
+use Rattle.order77.specs.Standings.{standing_of}
 use Rattle.unit77.specs.Units.{uses_among, jumps_among, open_after, strays_behind}
 
 -- what stands there, the names and the labels are those of these statements

@@ -3,7 +3,7 @@ use Rattle.std.specs.Prelude.{◌≡◌, ◌≤◌, nat_lt, ℕ, Bool, true, fal
 use Rattle.text_base.specs.declared.refusal.Place.{Place}
 use Rattle.tree77.specs.Statements.{Statement, header, declared, statement_function, end}
 use Rattle.unit77.specs.declared.limits.TheConstants.{MOST_NESTED, MOST_LABELS}
-use Rattle.unit77.specs.Counts.{Reading}
+use Rattle.order77.specs.Counts.{Reading}
 use Rattle.unit77.specs.Nesting.{is_executable, IsNesting}
 use Rattle.unit77.specs.Tree.{Line, Items, flat}
 use Rattle.unit77.specs.Units.{open_after, jumps_among, is_out_of_order, different}

@@ -1,11 +1,11 @@
 -- The statements that don't nest, by what is open where they stand. `hs` are the statements that the open DOs and arms begin
 -- with, the innermost first.
 use Rattle.std.specs.Prelude.{◌||◌, not, ℕ, Bool, true, false, List, [], ◌∷◌, ◌++◌, map, if◌then◌else◌}
-use Rattle.unit77.specs.declared.mark.Sort.{Sort}
-use Rattle.unit77.specs.declared.mark.Sort.TheVariants.{Plain, Do, If, ElseIf, Else, EndIf}
-use Rattle.unit77.specs.declared.mark.Mark.{Mark}
-use Rattle.unit77.specs.declared.mark.Stray.{Stray}
-use Rattle.unit77.specs.declared.mark.Fault.TheVariants.{Nesting, Terminal}
+use Rattle.order77.specs.declared.mark.Sort.{Sort}
+use Rattle.order77.specs.declared.mark.Sort.TheVariants.{Plain, Do, If, ElseIf, Else, EndIf}
+use Rattle.order77.specs.declared.mark.Mark.{Mark}
+use Rattle.order77.specs.declared.mark.Stray.{Stray}
+use Rattle.order77.specs.declared.mark.Fault.TheVariants.{Nesting, Terminal}
 use Rattle.unit77.specs.Nesting.{names, named}
 use Rattle.unit77.specs.Running.{may_part, may_close}
 

@@ -1,9 +1,9 @@
 -- Nesting by one pass: a list that grows, and the constructs that it stands in.
 use Rattle.std.specs.Prelude.{not, ℕ, Bool, true, false, List, [], ◌∷◌, ◌++◌, map, Option, Some, None, if◌then◌else◌}
 use Rattle.unit77.specs.Tree.{Line, Items, done, simple, loop, block, Arms, last, arm}
-use Rattle.unit77.specs.declared.mark.Sort.{Sort}
-use Rattle.unit77.specs.declared.mark.Sort.TheVariants.{Plain, Do, If, ElseIf, Else, EndIf}
-use Rattle.unit77.specs.declared.mark.Mark.{Mark}
+use Rattle.order77.specs.declared.mark.Sort.{Sort}
+use Rattle.order77.specs.declared.mark.Sort.TheVariants.{Plain, Do, If, ElseIf, Else, EndIf}
+use Rattle.order77.specs.declared.mark.Mark.{Mark}
 use Rattle.unit77.specs.Nesting.{mark, sort, names, named}
 
 abbrev pub join : Items → Items → Items

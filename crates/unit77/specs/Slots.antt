@@ -3,10 +3,10 @@ use Rattle.std.specs.Prelude.{◌≡◌, ◌<◌, nat_lt, ℕ, List, length, fol
 use Rattle.std.specs.Option.{option_map}
 use Rattle.text_base.specs.Causes.{cause_number}
 use Rattle.text_base.specs.declared.refusal.Refusal.{Refusal}
-use Rattle.unit77.specs.declared.mark.Fault.{Fault}
-use Rattle.unit77.specs.declared.mark.Stray.{Stray}
-use Rattle.unit77.specs.Counts.{Reading}
-use Rattle.unit77.specs.Names.{as_list}
+use Rattle.order77.specs.declared.mark.Fault.{Fault}
+use Rattle.order77.specs.declared.mark.Stray.{Stray}
+use Rattle.order77.specs.Counts.{Reading}
+use Rattle.order77.specs.Names.{as_list}
 use Rattle.unit77.specs.FileRefusals.{fault_cause, fault_refusal, faults_of, is_lower}
 
 abbrev pub rank : Fault → ℕ

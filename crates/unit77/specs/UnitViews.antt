@@ -5,16 +5,16 @@ use Rattle.text_base.specs.declared.refusal.Place.{Place}
 use Rattle.expr_tree.specs.Plain.{expr_of}
 use Rattle.tree77.specs.StatementPlain.{header_of, declared_of, statement_of}
 use Rattle.tree77.specs.Statements as s
-use Rattle.unit77.specs.declared.read.ReadStatement.{ReadStatement}
+use Rattle.order77.specs.declared.read.ReadStatement.{ReadStatement}
 use Rattle.unit77.specs.declared.tree.HeaderLine77.{HeaderLine77}
 use Rattle.unit77.specs.declared.tree.DeclaredLine77.{DeclaredLine77}
-use Rattle.unit77.specs.declared.tree.StmtFunction77.{StmtFunction77}
+use Rattle.unit77.specs.declared.tree.StmtFunction.{StmtFunction}
 use Rattle.unit77.specs.declared.tree.EndIf.{EndIf}
 use Rattle.unit77.specs.declared.tree.Unit77.{Unit77}
 use Rattle.unit77.specs.declared.units.Gathering.{Gathering}
 use Rattle.unit77.specs.declared.units.Building.{Building}
 use Rattle.unit77.specs.Units.{strays_at, strays_behind, open_after}
-use Rattle.unit77.specs.Counts.{counts_as, is_end}
+use Rattle.order77.specs.Counts.{counts_as, is_end}
 use Rattle.unit77.specs.Tree.{Line}
 use Rattle.unit77.specs.Nesting.{is_executable, IsNesting}
 use Rattle.unit77.specs.Programs.{ProgramUnit, first_of, reading_of, those, AreUnits, is_header, is_declared, is_function}
@@ -31,7 +31,7 @@ header_lines (Some h) = header_line h ∷ []
 abbrev pub declared_line : DeclaredLine77 → Line
 declared_line d = line d.number d.label d.place (s.declared (declared_of d.declared))
 
-abbrev pub function_line : StmtFunction77 → Line
+abbrev pub function_line : StmtFunction → Line
 function_line f = line f.number f.label f.place (s.statement_function f.name f.dummies (expr_of f.value))
 
 abbrev pub end_line : EndIf → Line

@@ -1,16 +1,15 @@
 -- The units of a file (X3.9 section 2.4), and which of its statements are refused for their order, their nesting or their unit.
 use Rattle.std.specs.Prelude.{not, ◌||◌, ◌==◌, nat_le, nat_lt, ℕ, Bool, true, false, List, [], ◌∷◌, ◌++◌, length, map, filter, flat_map, fold, Option, Some, None, if◌then◌else◌}
 use Rattle.std.specs.List.{list_any}
-use Rattle.tree77.specs.Statements.{Statement}
 use Rattle.unit77.specs.declared.limits.TheConstants.{MOST_NESTED, MOST_LABELS}
-use Rattle.unit77.specs.declared.mark.Sort.{Sort}
-use Rattle.unit77.specs.declared.mark.Sort.TheVariants.{Leaving, Do, If}
-use Rattle.unit77.specs.declared.mark.Mark.{Mark}
-use Rattle.unit77.specs.declared.mark.Stray.{Stray}
-use Rattle.unit77.specs.declared.mark.Fault.{Fault}
-use Rattle.unit77.specs.declared.mark.Fault.TheVariants as fault
-use Rattle.unit77.specs.Counts.{Reading, counts_as, is_first, is_misplaced, sort_in, is_end}
-use Rattle.unit77.specs.Names.{is_among, as_list, jumps, uses, constants}
+use Rattle.order77.specs.declared.mark.Sort.{Sort}
+use Rattle.order77.specs.declared.mark.Sort.TheVariants.{Leaving, Do, If}
+use Rattle.order77.specs.declared.mark.Mark.{Mark}
+use Rattle.order77.specs.declared.mark.Stray.{Stray}
+use Rattle.order77.specs.declared.mark.Fault.{Fault}
+use Rattle.order77.specs.declared.mark.Fault.TheVariants as fault
+use Rattle.order77.specs.Counts.{Reading, counts_as, is_first, is_misplaced, sort_in, is_end}
+use Rattle.order77.specs.Names.{is_among, jumps, uses, constants, within}
 use Rattle.unit77.specs.Refusals.{next, lacking, shown, loops, at_end}
 
 -- ---- what stands before a statement in its unit
@@ -25,9 +24,6 @@ open_behind (Some k) hs r = next hs (mark_as r k)
 -- the DOs and arms that are open behind some statements
 abbrev pub open_after : List Reading → List Mark
 open_after before = fold (λ hs r. open_behind (sort_in (counts_as r)) hs r) [] before
-
-abbrev pub within : {A : Type 0} → (Statement → List A) → Reading → List A
-within f r = flat_map f (as_list r.statement)
 
 -- the names whose values they use, and the labels that their jumps name
 abbrev pub uses_among : List Reading → List (List ℕ)

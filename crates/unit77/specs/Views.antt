@@ -1,5 +1,5 @@
 -- The declared trees as what the definitions speak of.
-use Rattle.std.specs.Prelude.{ℕ, Bool, true, false, List, [], ◌∷◌, map, fold, Option, Some, None}
+use Rattle.std.specs.Prelude.{◌==◌, ◌&&◌, ℕ, Bool, true, false, List, [], ◌∷◌, map, fold, Option, Some, None}
 use Rattle.std.specs.Option.{option_map}
 use Rattle.text_base.specs.declared.refusal.Place.{Place}
 use Rattle.expr_tree.specs.Plain.{expr_of}
@@ -46,10 +46,14 @@ arm_statement first None = s.else_
 abbrev pub later : ArmPart → Part
 later a = record { head = line a.number a.label a.place (arm_statement false a.test); items = a.items }
 
--- the arms of an IF in its place
+-- whether an arm begins in the place of its IF
+abbrev pub is_at : ℕ → ℕ → Place → ℕ → ℕ → Place → Bool
+is_at n l p number label place = (number == n) && ((label == l) && ((place.file == p.file) && (place.line == p.line)))
+
+-- the arms of an IF in its place; where the first one begins elsewhere, it is none that an IF may begin with
 abbrev pub parts_from : ℕ → ℕ → Place → List ArmPart → List Part
 parts_from n l p [] = []
-parts_from n l p (a ∷ as_) = record { head = line n l p (arm_statement true a.test); items = a.items } ∷ map later as_
+parts_from n l p (a ∷ as_) = record { head = line n l p (arm_statement (is_at n l p a.number a.label a.place) a.test); items = a.items } ∷ map later as_
 
 -- An IF has at least one arm, so this stands for no IF.
 abbrev pub no_arms : Arms
@@ -108,7 +112,7 @@ arms_in at (construct.If arms here test) = parts_of at arms
 
 -- the statement that an open arm begins with, behind these arms
 abbrev pub open_arm : Spot → List Arm77 → Spot → Option Expr → Line
-open_arm at [] here test = line at.number at.label at.place (arm_statement true test)
+open_arm at [] here test = line at.number at.label at.place (arm_statement (is_at at.number at.label at.place here.number here.label here.place) test)
 open_arm at (a ∷ as_) here test = line here.number here.label here.place (arm_statement false test)
 
 abbrev pub head_in : Spot → Construct → Line

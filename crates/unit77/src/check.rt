@@ -4,20 +4,20 @@ ghost use Rattle.std.specs.List.{list_any};
 ghost use Rattle.std.specs.Option.{option_map};
 ghost use Rattle.tree77.specs.StatementPlain.{statement_of};
 ghost use Rattle.unit77.specs.Checking.{IsSound, open_of};
-ghost use Rattle.unit77.specs.Counts.{Reading, counts_as, is_end};
-ghost use Rattle.unit77.specs.Names.{is_among, as_list, jumps, uses, constants};
-ghost use Rattle.unit77.specs.NameSets.{names_in, labels_in, with_names, with_labels};
+ghost use Rattle.order77.specs.Counts.{Reading, counts_as, is_end};
+ghost use Rattle.order77.specs.Names.{is_among, as_list, jumps, uses, constants};
+ghost use Rattle.order77.specs.NameSets.{names_in, labels_in, with_names, with_labels};
 ghost use Rattle.unit77.specs.Passing.{IsNoted, IsPass, IsGoing};
-ghost use Rattle.unit77.specs.ReadViews.{reading_at, readings_of};
+ghost use Rattle.order77.specs.ReadViews.{reading_at, readings_of};
 ghost use Rattle.unit77.specs.Units as plain;
 ghost use Rattle.unit77.specs.Units.{is_out_of_order, missing, nesting_strays, open_behind, strays_at, strays_where, end_strays};
 
 use crate::checker::Checker;
-use crate::counts::{counts_as, first_standing, is_misplaced, next_standing, sort_in};
 use crate::limits::MOST_LABELS;
-use crate::mark::{Counts, Fault, Mark, Sort, Standing, Stray};
-use crate::names::{Labels, Names};
-use crate::read::ReadStatement;
+use order77::{
+    Counts, Fault, Labels, Mark, Names, ReadStatement, Sort, Standing, Stray, counts_as,
+    first_standing, is_misplaced, next_standing, sort_in,
+};
 use sqlite_items::Items;
 use std::alloc::{AllocError, Global};
 use tree77::Statement77;

@@ -8,7 +8,7 @@ ghost use Rattle.unit77.specs.Checking.{opens, loops_from, with_ended, IsInnermo
 
 use crate::limits::MOST_NESTED;
 use crate::loops::{OpenLoop, OpenLoops};
-use crate::mark::{Fault, Mark, Sort, Stray};
+use order77::{Fault, Mark, Sort, Stray};
 use sqlite_items::Items;
 use std::alloc::{AllocError, Global};
 

@@ -2,8 +2,8 @@
 ghost use Rattle.std.specs.Prelude.{◌≡◌, ℕ, ◌==◌, [], ◌∷◌, ◌++◌, if◌then◌else◌, OnOk};
 ghost use Rattle.unit77.specs.Checking.{loops_for, loop_at};
 
-use crate::mark::{Mark, Sort};
 use indexmap::IndexMap;
+use order77::{Mark, Sort};
 use sqlite_items::Items;
 use std::alloc::{AllocError, Global};
 

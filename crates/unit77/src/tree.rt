@@ -17,9 +17,9 @@ pub struct DoHead {
 /// An END IF statement, or an END (X3.9 sections 11.9 and 11.14).
 #[derive(Debug, Drop)]
 pub struct EndIf {
-    pub number: u32,
     pub label: u32,
     pub place: Place,
+    pub number: u32,
 }
 
 /// What an item of a list is: a simple statement; a logical IF (X3.9 section 11.5); a block IF with its arms (X3.9 section
@@ -37,9 +37,9 @@ pub enum Body77 {
 #[cycle(item)]
 #[derive(Debug, Drop)]
 pub struct Item77 {
-    pub number: u32,
     pub label: u32,
     pub place: Place,
+    pub number: u32,
     pub body: Body77,
 }
 
@@ -47,10 +47,10 @@ pub struct Item77 {
 #[cycle(item)]
 #[derive(Debug, Drop)]
 pub struct Arm77 {
-    pub number: u32,
+    pub test: Option<Expr>,
     pub label: u32,
     pub place: Place,
-    pub test: Option<Expr>,
+    pub number: u32,
     pub items: Items77,
 }
 
@@ -63,47 +63,47 @@ pub type Arms77 = Items<Arm77>;
 /// The header of a unit in its place: PROGRAM, SUBROUTINE, FUNCTION or BLOCK DATA.
 #[derive(Debug, Drop)]
 pub struct HeaderLine77 {
-    pub number: u32,
+    pub header: Header77,
     pub label: u32,
     pub place: Place,
-    pub header: Header77,
+    pub number: u32,
 }
 
 /// A declaration in its place; DATA and FORMAT are among them.
 #[derive(Debug, Drop)]
 pub struct DeclaredLine77 {
-    pub number: u32,
+    pub declared: Declared77,
     pub label: u32,
     pub place: Place,
-    pub declared: Declared77,
+    pub number: u32,
 }
 
 /// A list of declarations in their places, which contracts see as the list.
-pub type Declareds77 = Items<DeclaredLine77>;
+pub type Declareds = Items<DeclaredLine77>;
 
 /// A statement function in its place: its name, its dummies and its expression (X3.9 section 15.4).
 #[derive(Debug, Drop)]
-pub struct StmtFunction77 {
-    pub number: u32,
-    pub label: u32,
-    pub place: Place,
+pub struct StmtFunction {
     pub name: Name,
     pub dummies: Names77,
     pub value: Expr,
+    pub label: u32,
+    pub place: Place,
+    pub number: u32,
 }
 
 /// A list of statement functions in their places, which contracts see as the list.
-pub type StmtFunctions77 = Items<StmtFunction77>;
+pub type StmtFunctions = Items<StmtFunction>;
 
 /// A program unit (X3.9 section 2.4): the number and the place of its first statement; its header, `None` for a main program
 /// without one; its declarations; its statement functions; its executable statements as nested lists; and its END.
 #[derive(Debug, Drop)]
 pub struct Unit77 {
-    pub number: u32,
-    pub place: Place,
     pub header: Option<HeaderLine77>,
-    pub declared: Declareds77,
-    pub functions: StmtFunctions77,
+    pub place: Place,
+    pub number: u32,
+    pub declared: Declareds,
+    pub functions: StmtFunctions,
     pub items: Items77,
     pub end: EndIf,
 }

@@ -10,16 +10,15 @@ ghost use Rattle.unit77.specs.Programs.{AreUnits, reading_of, is_header, is_end_
 ghost use Rattle.unit77.specs.Running.{heads, fits};
 ghost use Rattle.unit77.specs.Tree.{Line};
 ghost use Rattle.unit77.specs.UnitViews.{FirstIs, Gathers, HasPartsOf, IsBuild, MayTake, Takes, lines_at, lines_from, unit_of};
-ghost use Rattle.unit77.specs.ReadViews.{readings_of};
+ghost use Rattle.order77.specs.ReadViews.{readings_of};
 ghost use Rattle.unit77.specs.Units.{file_strays};
 ghost use Rattle.unit77.specs.Views.{line, stack_of};
 
 use crate::nester::{Nester, Spot, end_if};
-use crate::read::ReadStatement;
 use crate::tree::{
-    DeclaredLine77, Declareds77, EndIf, HeaderLine77, StmtFunction77, StmtFunctions77, Unit77,
-    Units77,
+    DeclaredLine77, Declareds, EndIf, HeaderLine77, StmtFunction, StmtFunctions, Unit77, Units77,
 };
+use order77::ReadStatement;
 use sqlite_items::Items;
 use std::alloc::{AllocError, Global};
 use std::mem;
@@ -32,8 +31,8 @@ use tree77::Statement77;
 pub struct Gathering {
     pub first: Option<(u32, Place)>,
     pub header: Option<HeaderLine77>,
-    pub declared: Declareds77,
-    pub functions: StmtFunctions77,
+    pub declared: Declareds,
+    pub functions: StmtFunctions,
     pub nester: Nester,
 }
 
@@ -90,7 +89,7 @@ impl Gathering {
                 declared,
             })?,
             Statement77::StmtFunction(name, dummies, value) => {
-                self.functions.push(StmtFunction77 {
+                self.functions.push(StmtFunction {
                     number,
                     label,
                     place,

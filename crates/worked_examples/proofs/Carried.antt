@@ -5,7 +5,7 @@ use Rattle.std.proofs.lemmas.Option.{slice_get_within, get_or_from_slice_get}
 use Rattle.std.specs.Option.{option_and_then}
 use Rattle.program77.specs.Layout.{Layout, integers, layout_of}
 use Rattle.tree90.specs.Tree.{FreeProgram}
-use Rattle.tree90.specs.Meaning.{Object, Cells, integer_at, object_integer}
+use Rattle.tree90.specs.Meaning.{integer_at}
 use Rattle.tree90.specs.Meaning as free
 use Rattle.project_set.specs.MapText.{MapLine}
 use Rattle.project_set.specs.Match.{IsSeen, OneLine, IsMap, IsCarried, object_place}

@@ -4,13 +4,13 @@ use Rattle.text_base.specs.Cards.{Card, cards}
 use Rattle.text_base.specs.LineRefusals.{card_refusals, files_refusals}
 use Rattle.text_base.specs.Pieces.{Piece}
 use Rattle.text_base.specs.declared.refusal.Refusal.{Refusal}
-use Rattle.unit77.specs.Counts.{Reading}
+use Rattle.order77.specs.Counts.{Reading}
 use Rattle.unit77.specs.FileRefusals.{file_refusals}
-use Rattle.unit77.specs.Settling.{settled}
+use Rattle.order77.specs.Settling.{settled}
 use Rattle.parse77.specs.Reading.{Outcome, Read, read_statement, outcome_from, outcome_of}
 use Rattle.parse77.specs.Statement.{refusal_by, card_readings, deck_refusals}
 use Rattle.scan77.specs.PieceReading.{pieces_of}
-use Rattle.program77.specs.SourceReading.{ReadCard, built_at, file_statements, read_unit, typed_unit, unless_refused, read_source}
+use Rattle.program77.specs.SourceReading.{ReadCard, built_at, read_unit, typed_unit, unless_refused, read_source}
 use Rattle.program77.specs.Tree.{SourceUnit, SourceProgram}
 use Rattle.project_set.specs.Refusals.{is_built_as, program_name, not_built_at, unit_refusals, first_of, refusals}
 use Rattle.worked_examples.proofs.LazyPieces.{lazy_pieces, lazily_cut}

@@ -1,15 +1,14 @@
 -- Statements, by their labels and their characters without blanks, and what they spell or why they are refused.
-use Rattle.std.specs.Prelude.{ℕ, List, [], ◌∷◌, ◌++◌, map, codes, pos, Option, Some, None}
+use Rattle.std.specs.Prelude.{ℕ, List, [], ◌∷◌, ◌++◌, map, codes, pos, Some, None}
 use Rattle.text_base.specs.Formats as f
 use Rattle.text_base.specs.Pieces.{Piece, plain, whole, broken}
 use Rattle.text_base.specs.Trees.{Expr, call, none, more, Exprs, binary, unary, minus, less, times, add, subtract, paren, text, substring, at, absent}
-use Rattle.text_base.specs.declared.refusal.Cause.{Cause}
 use Rattle.text_base.specs.declared.refusal.Cause.TheVariants.{NotAStatement, Unsupported, ConstantRange, NameTooLong}
 use Rattle.text_base.specs.declared.stop_code.StopCode.TheVariants.{Digits, Text}
 use Rattle.tree77.specs.Lexemes.{Part}
 use Rattle.tree77.specs.Spelling.{SpellsStatement, IsRefusedStatement}
 use Rattle.tree77.specs.Statements as s
-use Rattle.tree77.specs.Statements.{Statement, Simple, Declared, Header, header, declared, simple, guarded}
+use Rattle.tree77.specs.Statements.{Statement, header, declared, simple, guarded}
 use Rattle.worked_examples.specs.Read.{variable, number}
 
 -- characters outside kept text, as pieces

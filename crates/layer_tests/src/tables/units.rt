@@ -47,6 +47,14 @@ pub const REFUSED_UNITS: &str = r#"
       REAL FUNCTION F\n      RETURN\n      END\n ~ 1: 8 REAL; 2: 11 RETURN
       REAL FUNCTION F(1)\n      RETURN\n      END\n ~ 1: 8 REAL; 2: 11 RETURN
 
+# an executable statement stands before a declaration; an ELSE stands in no IF
+      PROGRAM T\n      I = 1\n      INTEGER K\n      END\n ~ 3: 11 INTEGER
+      PROGRAM T\n      ELSE\n      END\n ~ 2: 12 ELSE
+
+# the variable of an implied DO in DATA, and a subscript with it
+      DATA (A(1), I = 1, 1) /0/\n      PARAMETER (I = 5)\n      END\n ~ 2: 11 PARAMETER
+      DATA (A(I), I = 1, 1) /0/\n      PARAMETER (I = 5)\n      END\n ~ 2: 11 PARAMETER
+
 # IMPLICIT behind each declaration
       INTEGER K\n\
       IMPLICIT INTEGER (A)\n\
@@ -1092,6 +1100,9 @@ unit 7 | 7 subroutine S[] | 8 dimension: A[10] | - | 9 A[I] = 1 | 10 end
 # declarations behind a statement function
       A(I) = I\n      INTEGER A, K(2)\n      END\n ~ unit 0 | - | 1 integer: A K[2] | 0 A[I] := I | - | 2 end
 
+# IMPLICIT behind a statement function, which is no declaration
+      F(I) = I\n      IMPLICIT INTEGER (A)\n      END\n ~ unit 0 | - | 1 implicit: integer[A] | 0 F[I] := I | - | 2 end
+
 # variables with names of keywords nest nothing
       ELSE = 1\n\
       IF (L) = 2\n\
@@ -1180,7 +1191,7 @@ C     lines and columns
       END
 ";
 
-/// A file of several units, with constructs inside one another.
+/// The file of examples/stock.f: several units, with constructs inside one another.
 pub const STOCK: &str = r"C     STOCK COUNT
       PROGRAM STOCK
       INTEGER QTY(100), TOTAL

@@ -1,6 +1,6 @@
 use Rattle.std.proofs.Common.{◌≡◌, ℕ, IfOk, sym, subst}
 use Rattle.card_reader.specs.Deck.{card_of}
-use Rattle.unit77.specs.ReadViews.{reading_at}
+use Rattle.order77.specs.ReadViews.{reading_at}
 use Rattle.parse77.specs.Statement.{reading_by}
 use Rattle.parse77.specs.Views.{read_made}
 use Rattle.parse77.proofs.reader.read_as.Goals as goal

@@ -2,7 +2,7 @@ use Rattle.std.proofs.Common.{◌≡◌, ℕ, IfOk, ap, ◌∙◌, subst, rules}
 use Rattle.card_reader.specs.Deck.{card_of}
 use Rattle.scan77.specs.PieceReading.{pieces_of}
 use Rattle.scan77.specs.PieceSlice.{slice_of}
-use Rattle.unit77.specs.ReadViews.{reading_at}
+use Rattle.order77.specs.ReadViews.{reading_at}
 use Rattle.parse77.specs.Reading.{read_statement}
 use Rattle.parse77.specs.Statement.{reading_by}
 use Rattle.parse77.proofs.reader.read_card.Goals as goal

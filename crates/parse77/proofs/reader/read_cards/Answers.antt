@@ -1,5 +1,5 @@
 use Rattle.std.proofs.Common.{◌<◌, length, ap, ◌∙◌, arith}
-use Rattle.unit77.specs.ReadViews.{readings_of}
+use Rattle.order77.specs.ReadViews.{readings_of}
 use Rattle.parse77.proofs.FileReading.{readings_more}
 use Rattle.parse77.proofs.reader.read_cards.Goals as goal
 

@@ -1,6 +1,6 @@
 use Rattle.std.proofs.Common.{◌≡◌, map, take}
 use Rattle.card_reader.specs.Deck.{card_of}
-use Rattle.unit77.specs.ReadViews.{readings_of}
+use Rattle.order77.specs.ReadViews.{readings_of}
 use Rattle.parse77.specs.Statement.{card_readings}
 use Rattle.parse77.proofs.reader.read_cards.Given as goal
 

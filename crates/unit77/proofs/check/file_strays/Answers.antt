@@ -1,6 +1,6 @@
 use Rattle.std.proofs.Common.{arith, subst}
 use Rattle.unit77.specs.Checking.{IsSound}
-use Rattle.unit77.specs.ReadViews.{readings_of}
+use Rattle.order77.specs.ReadViews.{readings_of}
 use Rattle.unit77.specs.Units.{file_strays}
 use Rattle.unit77.proofs.Passing.{going_more, going_done}
 use Rattle.unit77.proofs.check.file_strays.Goals as goal

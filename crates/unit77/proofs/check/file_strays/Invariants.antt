@@ -1,7 +1,7 @@
 use Rattle.std.proofs.Common.{◌≡◌, drop}
 use Rattle.unit77.specs.Checking.{IsSound}
 use Rattle.unit77.specs.Passing.{IsGoing}
-use Rattle.unit77.specs.ReadViews.{readings_from, readings_of}
+use Rattle.order77.specs.ReadViews.{readings_from, readings_of}
 use Rattle.unit77.specs.Units.{file_strays}
 use Rattle.unit77.proofs.check.file_strays.Given as goal
 

@@ -1,6 +1,6 @@
 use Rattle.std.proofs.Common.{◌∙◌}
 use Rattle.unit77.specs.FileRefusals.{file_refusals}
-use Rattle.unit77.specs.ReadViews.{readings_of}
+use Rattle.order77.specs.ReadViews.{readings_of}
 use Rattle.unit77.proofs.SlotLemmas.{refused_more, refused_done}
 use Rattle.unit77.proofs.refusing.file_refusals.Goals as goal
 

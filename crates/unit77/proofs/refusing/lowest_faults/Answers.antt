@@ -1,5 +1,5 @@
 use Rattle.std.proofs.Common.{sym, subst, take}
-use Rattle.unit77.specs.declared.mark.Fault.TheVariants.{Depth}
+use Rattle.order77.specs.declared.mark.Fault.TheVariants.{Depth}
 use Rattle.unit77.specs.Slots.{AreLowest}
 use Rattle.unit77.proofs.SlotLemmas.{slots_written}
 use Rattle.unit77.proofs.refusing.lowest_faults.Goals as goal

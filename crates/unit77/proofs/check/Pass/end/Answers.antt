@@ -1,5 +1,5 @@
-use Rattle.unit77.specs.NameSets.{labels_in}
-use Rattle.unit77.specs.ReadViews.{reading_at}
+use Rattle.order77.specs.NameSets.{labels_in}
+use Rattle.order77.specs.ReadViews.{reading_at}
 use Rattle.unit77.proofs.Passing.{ended_strays}
 use Rattle.unit77.proofs.check.Pass.end.Goals as goal
 

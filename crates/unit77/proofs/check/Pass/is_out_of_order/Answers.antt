@@ -1,9 +1,9 @@
 use Rattle.std.proofs.Common.{◌≡◌, false, ◌||◌, ap, sym, ◌∙◌}
-use Rattle.unit77.specs.Counts.{counts_as, is_misplaced}
-use Rattle.unit77.specs.Names.{constants}
-use Rattle.unit77.specs.NameSets.{names_in}
-use Rattle.unit77.specs.ReadViews.{reading_at}
-use Rattle.unit77.specs.Units.{is_late, uses_among, within}
+use Rattle.order77.specs.Counts.{counts_as, is_misplaced}
+use Rattle.order77.specs.Names.{constants, within}
+use Rattle.order77.specs.NameSets.{names_in}
+use Rattle.order77.specs.ReadViews.{reading_at}
+use Rattle.unit77.specs.Units.{is_late, uses_among}
 use Rattle.unit77.proofs.Passing.{late_same}
 use Rattle.unit77.proofs.check.Pass.is_out_of_order.Goals as goal
 

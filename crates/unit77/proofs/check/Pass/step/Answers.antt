@@ -1,6 +1,6 @@
 use Rattle.std.proofs.Common.{◌≡◌, true, false, sym, ap, ◌∙◌}
-use Rattle.unit77.specs.Counts.{counts_as, is_end}
-use Rattle.unit77.specs.ReadViews.{reading_at}
+use Rattle.order77.specs.Counts.{counts_as, is_end}
+use Rattle.order77.specs.ReadViews.{reading_at}
 use Rattle.unit77.proofs.Passing.{ended_going, taken_going}
 use Rattle.unit77.proofs.check.Pass.step.Goals as goal
 

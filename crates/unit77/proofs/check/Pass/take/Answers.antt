@@ -1,6 +1,6 @@
 use Rattle.std.proofs.Common.{◌≡◌, refl, sym, ap, ◌∙◌}
-use Rattle.unit77.specs.Counts.{counts_as, is_end, sort_in}
-use Rattle.unit77.specs.ReadViews.{reading_at}
+use Rattle.order77.specs.Counts.{counts_as, is_end, sort_in}
+use Rattle.order77.specs.ReadViews.{reading_at}
 use Rattle.unit77.proofs.Passing.{taken_open, taken_strays}
 use Rattle.unit77.proofs.check.Pass.take.Goals as goal
 

@@ -1,8 +1,0 @@
-use Rattle.std.proofs.Common.{◌≡◌, drop, true, []}
-use Rattle.unit77.specs.FileRefusals.{name_behind}
-use Rattle.unit77.specs.Naming.{lent_name}
-use Rattle.unit77.specs.ReadViews.{readings_from, readings_of}
-use Rattle.unit77.proofs.naming.last_name.Given as goal
-
-abbrev pub invariant-loop-read : goal.invariant-loop-read
-invariant-loop-read l = name_behind l.naming.is_first (lent_name l.naming.name) (readings_from l.read-index (drop l.read-index l.statements)) ≡ name_behind true [] (readings_of l.statements)

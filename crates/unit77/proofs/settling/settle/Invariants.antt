@@ -1,7 +1,0 @@
-use Rattle.unit77.specs.ReadViews.{readings_of}
-use Rattle.unit77.specs.Settling.{settled}
-use Rattle.unit77.proofs.SettlingLemmas.{IsLeft}
-use Rattle.unit77.proofs.settling.settle.Given as goal
-
-abbrev pub invariant-loop-i : goal.invariant-loop-i
-invariant-loop-i l = IsLeft l.i l.flags.items l.read-items (settled (readings_of l.fn.statements.items))
