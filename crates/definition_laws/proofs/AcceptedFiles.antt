@@ -4,25 +4,27 @@ use Rattle.std.specs.Prelude.{nat_lt, if◌then◌else◌}
 use Rattle.std.specs.List.{list_all}
 use Rattle.std.specs.Option.{option_and_then, option_map}
 use Rattle.std.proofs.lemmas.Bool.{and_from, and_parts, leb-true, le-leb}
+use Rattle.std.proofs.lemmas.Option.{same_Some}
 use Rattle.std.proofs.lemmas.List.{append-nil}
 use Rattle.std.proofs.lemmas.List.Elements.{All-cons, All-nil}
 use Rattle.std.proofs.lemmas.List.Folds.{list_all-append}
 use Rattle.text_base.specs.Cards.{Card, cards}
 use Rattle.text_base.specs.LineRefusals.{too_large, passes_sum, line_refusals, card_refusals, files_refusals}
 use Rattle.text_base.specs.Lines.{lines}
-use Rattle.text_base.specs.Names.{action_names}
-use Rattle.text_base.specs.Trees.{Expr, int, name, unary, binary, Action, assign, stop}
+use Rattle.text_base.specs.Names.{action_variables}
+use Rattle.text_base.specs.Trees.{name, Action, assign, stop}
 use Rattle.text_base.specs.declared.refusal.Place.{Place}
 use Rattle.text_base.specs.declared.refusal.Refusal.{Refusal}
 use Rattle.program77.specs.Built.{SpellsBuilt, Built, program, action, continue, end_of_unit}
 use Rattle.program77.specs.Source.{IsSource}
 use Rattle.program77.specs.Tree as tree
 use Rattle.program77.specs.Tree.{Code, done, item, SourceUnit, SourceProgram}
-use Rattle.program77.specs.Typing.{code_names, is_variable, is_typed}
+use Rattle.program77.specs.Typing.{code_variables, is_variable, is_typed}
 use Rattle.program77.specs.SourceReading.{read_card, read_of, file_statements, Ended, ended_at, join_code, read_code, unit_with, header_name, read_unit, typed_unit, unless_refused, read_source}
 use Rattle.parse77.specs.Statement.{deck_refusals}
-use Rattle.project_set.specs.Refusals.{program_name, is_built_operand, is_built, is_built_action, is_short, is_built_statement, is_built_as, is_built_card, not_built_at, unbuilt_refusals, unit_refusals, first_of, refusals}
-use Rattle.definition_laws.specs.AcceptedFiles.{IsTerm, constant, variable, IsSumOfTerms, one_term, signed_term, more_terms, IsConverted, converted_assign, converted_stop, AreConverted, IsBuiltProgram, CardsAreSpelled, FilesAreSources}
+use Rattle.project_set.specs.Refusals.{program_name, is_built_action, is_short, is_built_statement, is_built_as, is_built_card, not_built_at, unbuilt_refusals, unit_refusals, first_of, refusals}
+use Rattle.definition_laws.specs.AcceptedFiles.{IsConverted, converted_assign, converted_stop, AreConverted, IsBuiltProgram, CardsAreSpelled, FilesAreSources}
+use Rattle.definition_laws.proofs.AcceptedExpressions.{arithmetic, is_arithmetic_built}
 use Rattle.definition_laws.proofs.AcceptedFaults.{after, beside, along}
 
 -- ---- cards
@@ -41,36 +43,16 @@ cards_are_spelled found only unit card =
 both : (p q : Bool) → ((p && q) ≡ true) ↔ ((p ≡ true) × (q ≡ true))
 both p q = (and_parts p q, λ h. and_from p q h.0 h.1)
 
-term : (e : Expr) → is_built_operand e ≡ true → IsTerm e
-term (int v) built = constant
-term (name x) built = variable
-term e built = absurd cc
-
-is_term : (e : Expr) → IsTerm e → is_built_operand e ≡ true
-is_term e constant = refl
-is_term e variable = refl
-
-sum_of : (e : Expr) → is_built e ≡ true → IsSumOfTerms e
-sum_of (unary op a) built = let b = and_parts _ _ built in signed_term b.0 (term a b.1)
-sum_of (binary op a b) built = let p = and_parts _ _ built in let q = and_parts _ _ p.1 in more_terms p.0 (sum_of a q.0) (term b q.1)
-sum_of e built = one_term (term e built)
-
-is_sum : (e : Expr) → IsSumOfTerms e → is_built e ≡ true
-is_sum e (one_term constant) = refl
-is_sum e (one_term variable) = refl
-is_sum e (signed_term {a = a} sign t) = and_from _ _ sign (is_term a t)
-is_sum e (more_terms {a = a} {b = b} op s t) = and_from _ _ op (and_from _ _ (is_sum a s) (is_term b t))
-
 converted : (a : Action) → ((is_built_action a ≡ true) × (is_short a ≡ true)) ↔ IsConverted a
 converted a = (to a, from a)
   where
     to : (a : Action) → (is_built_action a ≡ true) × (is_short a ≡ true) → IsConverted a
-    to (assign (name x) e) h = converted_assign (sum_of e h.0) (leb-true _ _ h.1)
+    to (assign (name x) e) h = converted_assign (arithmetic e h.0) (leb-true _ _ h.1)
     to (assign d e) h = absurd (let first = h.0 in cc)
     to stop h = converted_stop
 
     from : (a : Action) → IsConverted a → (is_built_action a ≡ true) × (is_short a ≡ true)
-    from a (converted_assign {e = e} s short) = (is_sum e s, le-leb _ _ short)
+    from a (converted_assign {e = e} s short) = (is_arithmetic_built e s, le-leb _ _ short)
     from a converted_stop = (refl, refl)
 
 -- ---- lists
@@ -85,13 +67,13 @@ code_built x done = true
 code_built x (item label here s rest) = stmt_built x s && code_built x rest
 
 -- the names of a list are integer variables, and its statements are converted
-built_code : (x : List ℕ) (code : Code) → (code_built x code ≡ true) ↔ ((list_all (is_variable x) (code_names code) ≡ true) × AreConverted code)
+built_code : (x : List ℕ) (code : Code) → (code_built x code ≡ true) ↔ ((list_all (is_variable x) (code_variables code) ≡ true) × AreConverted code)
 built_code x done = (λ e. (refl, tt), λ h. refl)
 built_code x (item label here tree.continue rest) = built_code x rest
 built_code x (item label here (tree.simple a) rest) =
     let more = built_code x rest in
-    let names = both (list_all (is_variable x) (action_names a)) (list_all (is_variable x) (code_names rest)) in
-    rw (list_all-append (is_variable x) (action_names a) (code_names rest)) (
+    let names = both (list_all (is_variable x) (action_variables a)) (list_all (is_variable x) (code_variables rest)) in
+    rw (list_all-append (is_variable x) (action_variables a) (code_variables rest)) (
       λ e. let p = and_parts _ _ e in let q = and_parts _ _ p.0 in let r = and_parts _ _ q.1 in let m = more.0 p.1 in (names.1 (r.0, m.0), ((converted a).0 (q.0, r.1), m.1)),
       λ h. let n = names.0 h.0 in let k = (converted a).1 h.1.0 in and_from _ _ (and_from _ _ k.0 (and_from _ _ n.0 k.1)) (more.1 (n.1, h.1.1)),
     )
@@ -163,12 +145,20 @@ no_statement p (card ∷ cs) = go (p card) (no_statement p cs)
     go true more = more
     go false more = (λ e. absurd cc, λ e. absurd cc)
 
+typed_read : (o : Option SourceUnit) (u : SourceUnit) → option_and_then typed_unit o ≡ Some u → (o ≡ Some u) × (is_typed u ≡ true)
+typed_read None u e = absurd cc
+typed_read (Some v) u e = go (is_typed v) refl e
+  where
+    go : (b : Bool) → is_typed v ≡ b → (if b then Some v else None) ≡ Some u → (◌≡◌ {A = Option SourceUnit} (Some v) (Some u)) × (is_typed u ≡ true)
+    go true is e = (e, subst (λ t. is_typed t ≡ true) (same_Some v u e) is)
+    go false is e = absurd cc
+
 no_unit : (o : Option SourceUnit) → (unit_refusals 0 o ≡ []) ↔ ((u : SourceUnit) × (o ≡ Some u))
 no_unit None = (λ e. absurd cc, λ h. absurd (let e = h.1 in cc))
 no_unit (Some u) = (λ e. (u, refl), λ h. refl)
 
 phases : (bytes : List ℕ) → (refusals bytes ≡ [])
-    ↔ ((card_refusals 0 bytes ≡ []) × ((deck_refusals (cards 0 bytes) ≡ []) × ((list_all (is_built_card (program_name (file_statements 0 bytes))) (cards 0 bytes) ≡ true) × ((u : SourceUnit) × (read_unit (file_statements 0 bytes) ≡ Some u)))))
+    ↔ ((card_refusals 0 bytes ≡ []) × ((deck_refusals (cards 0 bytes) ≡ []) × ((list_all (is_built_card (program_name (file_statements 0 bytes))) (cards 0 bytes) ≡ true) × ((u : SourceUnit) × (option_and_then typed_unit (read_unit (file_statements 0 bytes)) ≡ Some u)))))
 phases bytes =
     let unit = program_name (file_statements 0 bytes) in
     let same : deck_refusals (cards 0 bytes) ≡ [] → deck_refusals (cards 0 bytes) ≡ [] = λ e. e in
@@ -217,11 +207,12 @@ pub files_are_sources : ((file : ℕ) (bytes : List ℕ) (p : SourceProgram) →
 files_are_sources found only bytes = (
   λ e. let p = (phases bytes).0 e in
       let u = p.1.1.1.0 in
-      let is : read_unit (file_statements 0 bytes) ≡ Some u = p.1.1.1.1 in
-      let built = (built_code u.name u.code).0 (sym (unit_reads (cards 0 bytes) u is) ∙ p.1.1.0) in
-      (program_of u, found 0 bytes (program_of u) (source_read bytes u p.0 p.1.0 is built.0), All-cons (λ unit. AreConverted unit.code) u [] built.1 (All-nil (λ unit. AreConverted unit.code))),
+      let is = typed_read (read_unit (file_statements 0 bytes)) u p.1.1.1.1 in
+      let built = (built_code u.name u.code).0 (sym (unit_reads (cards 0 bytes) u is.0) ∙ p.1.1.0) in
+      (program_of u, found 0 bytes (program_of u) (source_read bytes u p.0 p.1.0 is.0 is.1), All-cons (λ unit. AreConverted unit.code) u [] built.1 (All-nil (λ unit. AreConverted unit.code))),
   λ h. let v = source_unit bytes h.0 h.1 (only 0 bytes h.0 h.1) in
       let u = v.unit in
-      let built = (built_code u.name u.code).1 (v.typed, subst IsBuiltProgram v.whole h.2 0 u (omega arith)) in
-      (phases bytes).1 (h.1.accepted, (v.deck, (unit_reads (cards 0 bytes) u v.read ∙ built, (u, v.read)))),
+      let built = (built_code u.name u.code).1 ((and_parts _ _ v.typed).0, subst IsBuiltProgram v.whole h.2 0 u (omega arith)) in
+      let typed : option_and_then typed_unit (read_unit (file_statements 0 bytes)) ≡ Some u = ap (option_and_then typed_unit) v.read ∙ ap (λ b. if b then Some u else None) v.typed in
+      (phases bytes).1 (h.1.accepted, (v.deck, (unit_reads (cards 0 bytes) u v.read ∙ built, (u, typed)))),
 )

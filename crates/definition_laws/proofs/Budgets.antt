@@ -18,6 +18,7 @@ use Rattle.tree90.specs.Meaning as nested
 use Rattle.definition_laws.specs.CommentPlaces.{code_marks, how_many}
 use Rattle.definition_laws.specs.Running.{IsOneRun, IsOver, count_of}
 use Rattle.definition_laws.proofs.EntryCounts.{one}
+use Rattle.definition_laws.proofs.Evaluating.{Stops}
 use Rattle.definition_laws.proofs.Acting.{acts}
 
 -- the same with k more statements, unless the budget ended
@@ -55,7 +56,7 @@ module _ {W : Type 0} where
   leaves_tick i j zero w f le h = absurd (omega arith)
   leaves_tick i j (suc n) w f le h = h n (omega arith)
 
-  module _ (storage : Storage W) (function : Call W) (here : Place) where
+  module _ (storage : Storage W) (function : Call W) (stops : Stops function) (here : Place) where
     later_action : (a : Action) (k n : ℕ) (w : W) → Later k (e.action storage function here a n w) (e.action storage function here a (n + k) w)
     later_action stop k n w = later_tick k n w _ (λ m. refl)
     later_action (assign d x) k zero w = tt
@@ -63,13 +64,13 @@ module _ {W : Type 0} where
         let total : suc n + k ≡ suc (n + k) = omega arith in
         let more = ap (λ i. e.action storage function here (assign d x) i w) total in
         ⊎_elim (λ s. subst (λ z. Later k z (e.action storage function here (assign d x) (suc n + k) w)) (sym (s.2 n)) (more ∙ s.2 (n + k)))
-        (λ s. subst (λ z. Later k z (e.action storage function here (assign d x) (suc n + k) w)) (sym (s.2 n)) (more ∙ s.2 (n + k))) (acts storage function here d x w)
+        (λ s. subst (λ z. Later k z (e.action storage function here (assign d x) (suc n + k) w)) (sym (s.2 n)) (more ∙ s.2 (n + k))) (acts storage function stops here d x w)
 
     leaves_action : (a : Action) (j n : ℕ) (w : W) → j + 1 ≤ n → Leaves j (e.action storage function here a n w)
     leaves_action stop j n w le = leaves_tick j j n w _ le (λ m lt. tt)
     leaves_action (assign d x) j zero w le = absurd (omega arith)
     leaves_action (assign d x) j (suc n) w le =
-        ⊎_elim (λ s. subst (Leaves j) (sym (s.2 n)) (omega arith)) (λ s. subst (Leaves j) (sym (s.2 n)) tt) (acts storage function here d x w)
+        ⊎_elim (λ s. subst (Leaves j) (sym (s.2 n)) (omega arith)) (λ s. subst (Leaves j) (sym (s.2 n)) tt) (acts storage function stops here d x w)
 
   -- ---- whole runs
 
@@ -110,7 +111,11 @@ module _ {W : Type 0} where
 
 -- ---- FORTRAN 77
 
-module _ (storage : Storage Store) (function : Call Store) where
+-- a function that isn't an intrinsic one has no meaning
+pub source_stops : Stops flat.no_function
+source_stops = (record { file = 0; line = 0 }, λ f values n w. refl)
+
+module _ (storage : Storage Store) (function : Call Store) (stops : Stops function) where
   later_proceed : (go : ℕ → List Open → ℕ → Store → Out Store (Unit {0})) (loops : List Open) (k n : ℕ) (w : Store) (how : How)
       → Later k (go 0 loops n w) (go 0 loops (n + k) w) → Later k (proceed go loops n w how) (proceed go loops (n + k) w how)
   later_proceed go loops k n w normal later = later
@@ -119,7 +124,7 @@ module _ (storage : Storage Store) (function : Call Store) where
   later_from [] passed loops k n w = later_tick k n w _ (λ m. refl)
   later_from (line label depth here op ∷ rest) (suc j) loops k n w = later_from rest j loops k n w
   later_from (line label depth here (act a) ∷ rest) zero loops k n w =
-      later_bind k _ _ _ (later_action storage function here a k n w) (λ m u how. later_proceed (from storage function rest) loops k m u how (later_from rest 0 loops k m u))
+      later_bind k _ _ _ (later_action storage function stops here a k n w) (λ m u how. later_proceed (from storage function rest) loops k m u how (later_from rest 0 loops k m u))
   later_from (line label depth here pass ∷ rest) zero loops k n w = later_from rest 0 loops k n w
 
   leaves_proceed : (go : ℕ → List Open → ℕ → Store → Out Store (Unit {0})) (loops : List Open) (n : ℕ) (w : Store) (how : How) → Leaves 0 (go 0 loops n w) → Leaves 0 (proceed go loops n w how)
@@ -129,7 +134,7 @@ module _ (storage : Storage Store) (function : Call Store) where
   leaves_from source.done depth loops n w le = leaves_tick 0 0 n w _ le (λ m lt. omega arith)
   leaves_from (source.item label here (source.simple a) rest) depth loops n w le =
       let one_more = sum_by-cons one true (code_marks rest) in
-      leaves_bind 0 (how_many (code_marks rest)) _ _ (leaves_action storage function here a (how_many (code_marks rest)) n w (omega (arith, one_more, le)))
+      leaves_bind 0 (how_many (code_marks rest)) _ _ (leaves_action storage function stops here a (how_many (code_marks rest)) n w (omega (arith, one_more, le)))
       (λ m u how lt. leaves_proceed (from storage function (lines rest depth [])) loops m u how (leaves_from rest depth loops m u lt))
   leaves_from (source.item label here source.continue rest) depth loops n w le =
       let no_more = sum_by-cons one false (code_marks rest) in
@@ -145,25 +150,28 @@ module _ (storage : Storage Store) (function : Call Store) where
 pub source_one : (layout : Layout) (main : Option SourceUnit) → IsOneRun (run_main layout main)
 source_one layout None = one_run (run_main layout None) (λ k n. refl)
 source_one layout (Some u) =
-    one_run (run_main layout (Some u)) (λ k n. stays_close k _ _ flat.stop_at_end (later_from (tagged layout 0) flat.no_function (lines u.code 0 []) 0 [] k n (start77 layout)) (λ i m w a. refl))
+    one_run (run_main layout (Some u)) (λ k n. stays_close k _ _ flat.stop_at_end (later_from (tagged layout 0) flat.no_function source_stops (lines u.code 0 []) 0 [] k n (start77 layout)) (λ i m w a. refl))
 
 pub source_ends : (layout : Layout) (u : SourceUnit) → IsOver (run_main layout (Some u) (how_many (code_marks u.code)))
 source_ends layout u =
-    over_close 0 _ flat.stop_at_end (leaves_from (tagged layout 0) flat.no_function u.code 0 [] (how_many (code_marks u.code)) (start77 layout) (omega arith)) (λ n w a. tt)
+    over_close 0 _ flat.stop_at_end (leaves_from (tagged layout 0) flat.no_function source_stops u.code 0 [] (how_many (code_marks u.code)) (start77 layout) (omega arith)) (λ n w a. tt)
 
 pub source_begins : (layout : Layout) (u : SourceUnit) → run_main layout (Some u) 0 ≡ going (start77 layout)
-source_begins layout u = ap (λ r. close r flat.stop_at_end) (begins (tagged layout 0) flat.no_function u.code 0 [] (start77 layout))
+source_begins layout u = ap (λ r. close r flat.stop_at_end) (begins (tagged layout 0) flat.no_function source_stops u.code 0 [] (start77 layout))
 
 -- ---- Fortran 90
 
-module _ (storage : Storage Objects) (function : Call Objects) where
+pub written_stops : Stops nested.no_function
+written_stops = (nowhere, λ f values n w. refl)
+
+module _ (storage : Storage Objects) (function : Call Objects) (stops : Stops function) where
   later_next : (go : ℕ → Objects → Out Objects How) (k n : ℕ) (w : Objects) (how : How) → Later k (go n w) (go (n + k) w) → Later k (next how go n w) (next how go (n + k) w)
   later_next go k n w normal later = later
 
   later_body : (c : free.Code) (k n : ℕ) (w : Objects) → Later k (body storage function c n w) (body storage function c (n + k) w)
   later_body free.done k n w = refl
   later_body (free.item remarks (free.simple a) rest) k n w =
-      later_bind k _ _ _ (later_action storage function nowhere a k n w) (λ m u how. later_next (body storage function rest) k m u how (later_body rest k m u))
+      later_bind k _ _ _ (later_action storage function stops nowhere a k n w) (λ m u how. later_next (body storage function rest) k m u how (later_body rest k m u))
 
   leaves_next : (go : ℕ → Objects → Out Objects How) (j n : ℕ) (w : Objects) (how : How) → Leaves j (go n w) → Leaves j (next how go n w)
   leaves_next go j n w normal leaves = leaves
@@ -171,7 +179,7 @@ module _ (storage : Storage Objects) (function : Call Objects) where
   leaves_body : (c : free.Code) (j n : ℕ) (w : Objects) → count_of c + j ≤ n → Leaves j (body storage function c n w)
   leaves_body free.done j n w le = omega (arith, le)
   leaves_body (free.item remarks (free.simple a) rest) j n w le =
-      leaves_bind j (count_of rest + j) _ _ (leaves_action storage function nowhere a (count_of rest + j) n w (omega (arith, le)))
+      leaves_bind j (count_of rest + j) _ _ (leaves_action storage function stops nowhere a (count_of rest + j) n w (omega (arith, le)))
       (λ m u how lt. leaves_next (body storage function rest) j m u how (leaves_body rest j m u lt))
 
   pub body_begins : (c : free.Code) (w : Objects) → bind (body storage function c 0 w) unit_end ≡ over (going w)
@@ -190,11 +198,11 @@ written_one start None = one_run (nested.run_main start None) (λ k n. refl)
 written_one start (Some u) =
     one_run (nested.run_main start (Some u))
     (λ k n. stays_close k _ _ nested.stop_at_end
-    (later_bind k _ _ _ (later_body (untagged u.name) nested.no_function u.code k n start) (λ m w how. later_unit_end k m w how)) (λ i m w a. refl))
+    (later_bind k _ _ _ (later_body (untagged u.name) nested.no_function written_stops u.code k n start) (λ m w how. later_unit_end k m w how)) (λ i m w a. refl))
 
 pub written_ends : (start : Objects) (u : FreeUnit) → IsOver (nested.run_main start (Some u) (count_of u.code + 1))
 written_ends start u =
-    over_close 0 _ nested.stop_at_end (leaves_bind 0 1 _ _ (leaves_body (untagged u.name) nested.no_function u.code 1 (count_of u.code + 1) start (omega arith)) (λ n w how le. leaves_unit_end n w how le)) (λ n w a. tt)
+    over_close 0 _ nested.stop_at_end (leaves_bind 0 1 _ _ (leaves_body (untagged u.name) nested.no_function written_stops u.code 1 (count_of u.code + 1) start (omega arith)) (λ n w how le. leaves_unit_end n w how le)) (λ n w a. tt)
 
 pub written_begins : (start : Objects) (u : FreeUnit) → nested.run_main start (Some u) 0 ≡ going start
-written_begins start u = ap (λ r. close r nested.stop_at_end) (body_begins (untagged u.name) nested.no_function u.code start)
+written_begins start u = ap (λ r. close r nested.stop_at_end) (body_begins (untagged u.name) nested.no_function written_stops u.code start)

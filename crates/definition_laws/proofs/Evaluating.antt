@@ -1,289 +1,222 @@
--- What an expression gives, by the values of its names alone.
-use Rattle.std.proofs.Common.{◌≡◌, ◌⊎◌, inl, inr, ℕ, ℤ, Bool, true, false, List, [], Option, Some, None, refl, sym, ap, ◌∙◌, subst, ⊎_elim, arith}
-use Rattle.std.specs.Prelude.{pos, negsuc, ◌+ℤ◌, ◌-ℤ◌, neg_ℤ, if◌then◌else◌}
-use Rattle.std.specs.Int.Signed.{le_z}
+-- What an expression gives, by the values of its variables alone.
+use Rattle.std.proofs.Common.{◌≡◌, ◌⊎◌, inl, inr, ℕ, true, false, List, [], ◌∷◌, ◌++◌, Contains, Option, Some, None, refl, sym, ap, ◌∙◌, subst, ⊎_elim}
+use Rattle.std.specs.Prelude.{is_some}
 use Rattle.std.specs.Option.{option_map, option_and_then}
-use Rattle.std.proofs.lemmas.Int.{ints}
-use Rattle.std.proofs.lemmas.Bool.{and_cases, true_from_ne_false}
-use Rattle.std.proofs.lemmas.List.Elements.{Contains-append_left, Contains-append_right, Contains-push}
-use Rattle.text_base.specs.Trees.{UnaryOp, plus, minus, negation, BinaryOp, add, subtract, Expr, int, bool, text, name, call, substring, unary, binary, paren}
-use Rattle.text_base.specs.Names.{expr_names}
-use Rattle.text_base.specs.Values.{Value, integer, RunFault, Undefined, Overflow, NoMeaning}
-use Rattle.text_base.specs.Operations.{Computed, computes, faults, is_integer, in_range, unary_result, binary_result}
-use Rattle.text_base.specs.Runs.{fault, gives, over, bind, known, computed}
-use Rattle.text_base.specs.Evaluation.{Storage, Call}
+use Rattle.std.proofs.lemmas.List.Elements.{All-contains, Contains-append_left, Contains-append_right}
+use Rattle.text_base.specs.Trees.{Expr, int, bool, text, name, call, substring, unary, binary, paren, Exprs, none, more}
+use Rattle.text_base.specs.Names.{expr_variables, exprs_variables, expr_functions, exprs_functions}
+use Rattle.text_base.specs.Values.{Value, integer, logical, string, Fault, run_fault, no_meaning}
+use Rattle.text_base.specs.Operations.{Computed, computes, faults, unfit, outcome}
+use Rattle.text_base.specs.Operators.{unary_op, binary_op, intrinsic}
+use Rattle.text_base.specs.Runs.{Final, fault, Out, gives, over, bind, known, computed}
+use Rattle.text_base.specs.Evaluation.{Storage, Call, applied}
 use Rattle.text_base.specs.Evaluation as e
+use Rattle.text_base.specs.declared.operation.Op.{Op}
+use Rattle.text_base.specs.declared.operation.RunFault.{RunFault}
+use Rattle.text_base.specs.declared.operation.RunFault.TheVariants.{Undefined, ExpressionDefined}
 use Rattle.text_base.specs.declared.refusal.Place.{Place}
-use Rattle.text_base.proofs.Optional.{went}
-use Rattle.definition_laws.specs.Faults.{integer_of, exact_unary, exact_binary, IsOutside, IsTooLarge, exact, HasUndefined, HasOverflow, ValuesAreExact, ExactIsGiven, UndefinedHasCause, OverflowHasCause, FaultsAreHere, LeftIsFirst}
+use Rattle.definition_laws.specs.Faults.{value_from, function_value, value_in, values_in, HasFault, HaveFault, IsIntrinsic, ValuesAreGiven, GivenAreValues, UndefinedHasCause, FaultHasCause, FaultsAreHere, LeftIsFirst, FirstArgumentIsFirst}
+use Rattle.value_ops.specs.Laws.{IsOperationFault}
+use Rattle.value_ops.proofs.Rows.{three_ways}
+use Rattle.definition_laws.proofs.NameOrder.{first_of}
 
-abbrev pub value_or : Option Value → Computed
-value_or None = faults Undefined
-value_or (Some v) = computes v
+-- why an expression gives nothing: a variable has no value, an operation faults, or a function isn't an intrinsic one
+pub data Cause : Type 0 where
+  unset : Cause
+  failed : RunFault → Cause
+  strange : Cause
 
-abbrev pub after : Computed → (Value → Computed) → Computed
-after (computes v) f = f v
-after (faults kind) f = faults kind
+-- a function that isn't an intrinsic one ends the run without a meaning, at a place
+abbrev pub Stops : {W : Type 0} → Call W → Type 0
+Stops {W} function = (at : Place) × ((f : List ℕ) (values : List Value) (n : ℕ) (w : W) → function f values n w ≡ over (fault at no_meaning))
 
--- what an expression gives, or its fault
-abbrev pub result : (List ℕ → Option Value) → Expr → Computed
-result values (int v) = computes (integer v)
-result values (name x) = value_or (values x)
-result values (unary op a) = after (result values a) (unary_result op)
-result values (binary op a b) = after (result values a) (λ x. after (result values b) (binary_result op x))
-result values (bool b) = faults NoMeaning
-result values (text t) = faults NoMeaning
-result values (call f xs) = faults NoMeaning
-result values (substring a from to) = faults NoMeaning
-result values (paren a) = faults NoMeaning
+-- no operation faults so
+pub not_undefined : IsOperationFault Undefined → ⊥
+not_undefined (inl is) = absurd cc
+not_undefined (inr (inl is)) = absurd cc
+not_undefined (inr (inr is)) = absurd cc
 
-module _ {W : Type 0} (storage : Storage W) (function : Call W) (here : Place) where
-  bound : (r : Computed) (f : Value → Computed) (n : ℕ) (w : W) → bind (computed here r n w) (λ n w x. computed here (f x) n w) ≡ computed here (after r f) n w
-  bound (computes v) f n w = refl
-  bound (faults kind) f n w = refl
+pub not_defined : IsOperationFault ExpressionDefined → ⊥
+not_defined (inl is) = absurd cc
+not_defined (inr (inl is)) = absurd cc
+not_defined (inr (inr is)) = absurd cc
 
-  -- evaluation gives that, and neither counts nor changes anything
-  pub evals : (x : Expr) (n : ℕ) (w : W) → e.eval storage function here x n w ≡ computed here (result (storage.read w) x) n w
-  evals (int v) n w = refl
-  evals (name x) n w = go (storage.read w x)
+mapped : {A B : Type 0} (f : A → B) (o : Option A) → option_and_then (λ a. Some (f a)) o ≡ option_map f o
+mapped f None = refl
+mapped f (Some a) = refl
+
+module _ {W : Type 0} (storage : Storage W) (function : Call W) (here : Place) (w : W) where
+  abbrev values : List ℕ → Option Value
+  values = storage.read w
+
+  -- Of what is evaluated from any budget: the value that it gives, which leaves the budget and the store as they were, or the
+  -- fault, with its cause.
+  pub data Goes {A : Type 0} (o : ℕ → Out W A) (value : Option A) (Because : Cause → Type 0) : Type 0 where
+    goes_on : (a : A) → value ≡ Some a → ((n : ℕ) → o n ≡ gives n w a) → Goes o value Because
+    is_undefined : value ≡ None → Because unset → ((n : ℕ) → o n ≡ over (fault here (run_fault Undefined))) → Goes o value Because
+    has_failed : (kind : RunFault) → IsOperationFault kind → value ≡ None → Because (failed kind) → ((n : ℕ) → o n ≡ over (fault here (run_fault kind))) → Goes o value Because
+    has_no_meaning : value ≡ None → ((n : ℕ) → o n ≡ over (fault here no_meaning)) → Goes o value Because
+    is_strange : value ≡ None → Because strange → ((stops : Stops function) (n : ℕ) → o n ≡ over (fault stops.0 no_meaning)) → Goes o value Because
+
+  -- what goes on with a value
+  goes_bind : {A B : Type 0} {o : ℕ → Out W A} {value : Option A} {Because Then : Cause → Type 0} → Goes o value Because → (k : ℕ → W → A → Out W B) (next : A → Option B) → ((c : Cause) → Because c → Then c)
+      → ((a : A) → value ≡ Some a → Goes (λ n. k n w a) (next a) Then) → Goes (λ n. bind (o n) k) (option_and_then next value) Then
+  goes_bind {B = B} {Then = Then} (goes_on a is e) k next lift f =
+      subst (λ (q : (ℕ → Out W B) × Option B). Goes q.0 q.1 Then) (λ i. (λ n. bind (sym (e n) i) k, option_and_then next (sym is i))) (f a is)
+  goes_bind (is_undefined is why e) k next lift f = is_undefined (ap (option_and_then next) is) (lift unset why) (λ n. ap (λ r. bind r k) (e n))
+  goes_bind (has_failed kind way is why e) k next lift f = has_failed kind way (ap (option_and_then next) is) (lift (failed kind) why) (λ n. ap (λ r. bind r k) (e n))
+  goes_bind (has_no_meaning is e) k next lift f = has_no_meaning (ap (option_and_then next) is) (λ n. ap (λ r. bind r k) (e n))
+  goes_bind (is_strange is why e) k next lift f = is_strange (ap (option_and_then next) is) (lift strange why) (λ stops n. ap (λ r. bind r k) (e stops n))
+
+  operation : (Because : Cause → Type 0) (op : Op) (vs : List Value) → ((kind : RunFault) → outcome op vs ≡ faults kind → Because (failed kind))
+      → Goes (λ n. computed here (outcome op vs) n w) (value_from (outcome op vs)) Because
+  operation Because op vs why = go (outcome op vs) refl
     where
-      go : (o : Option Value) → known here Undefined o n w ≡ computed here (value_or o) n w
-      go None = refl
-      go (Some v) = refl
-  evals (unary op a) n w = ap (λ o. bind o (λ n w x. computed here (unary_result op x) n w)) (evals a n w) ∙ bound (result (storage.read w) a) (unary_result op) n w
-  evals (binary op a b) n w =
-      ap (λ o. bind o (λ n w x. bind (e.eval storage function here b n w) (λ n w y. computed here (binary_result op x y) n w))) (evals a n w)
-      ∙ go (result (storage.read w) a) (evals b n w)
-    where
-      go : (r : Computed) → e.eval storage function here b n w ≡ computed here (result (storage.read w) b) n w
-          → bind (computed here r n w) (λ n w x. bind (e.eval storage function here b n w) (λ n w y. computed here (binary_result op x y) n w))
-          ≡ computed here (after r (λ x. after (result (storage.read w) b) (binary_result op x))) n w
-      go (computes x) second = ap (λ o. bind o (λ n w y. computed here (binary_result op x y) n w)) second ∙ bound (result (storage.read w) b) (binary_result op x) n w
-      go (faults kind) second = refl
-  evals (bool b) n w = refl
-  evals (text t) n w = refl
-  evals (call f xs) n w = refl
-  evals (substring a from to) n w = refl
-  evals (paren a) n w = refl
+      go : (r : Computed) → outcome op vs ≡ r → Goes (λ n. computed here r n w) (value_from r) Because
+      go (computes v) is = goes_on v refl (λ n. refl)
+      go (faults kind) is = has_failed kind (three_ways op vs kind is) refl (why kind is) (λ n. refl)
+      go unfit is = has_no_meaning refl (λ n. refl)
 
--- ---- the range
+  -- ---- causes
 
-outside : (z : ℤ) → is_integer z ≡ false → IsOutside z
-outside z e = ⊎_elim (λ low. inl (grind (arith, ints))) (λ high. inr (grind (arith, ints))) (and_cases (le_z (negsuc 2147483647) z) (le_z z (pos 2147483647)) e)
+  -- a variable, a fault of an operation, and a function, of some
+  abbrev pub Of : List (List ℕ) → List (List ℕ) → (RunFault → Type 0) → Cause → Type 0
+  Of xs fs Fault unset = (x : List ℕ) × Contains xs x × (values x ≡ None)
+  Of xs fs Fault (failed kind) = Fault kind
+  Of xs fs Fault strange = (f : List ℕ) × Contains fs f × (intrinsic f ≡ None)
 
-inside : (z : ℤ) → (IsOutside z → ⊥) → is_integer z ≡ true
-inside z h = true_from_ne_false (is_integer z) (λ e. h (outside z e))
+  abbrev pub OfExpr : Expr → Cause → Type 0
+  OfExpr x = Of (expr_variables x) (expr_functions x) (λ kind. HasFault values kind x)
 
-range_value : (z : ℤ) (v : Value) → in_range z ≡ computes v → integer_of v ≡ z
-range_value z v e = go (is_integer z) e
-  where
-    go : (b : Bool) → (if b then computes (integer z) else faults Overflow) ≡ computes v → integer_of v ≡ z
-    go true f = let same : integer z ≡ v = cc in ap integer_of (sym same)
-    go false f = absurd cc
+  abbrev pub OfExprs : Exprs → Cause → Type 0
+  OfExprs xs = Of (exprs_variables xs) (exprs_functions xs) (λ kind. HaveFault values kind xs)
 
-range_fault : (z : ℤ) → in_range z ≡ faults Overflow → IsOutside z
-range_fault z e = go (is_integer z) refl e
-  where
-    go : (b : Bool) → is_integer z ≡ b → (if b then computes (integer z) else faults Overflow) ≡ faults Overflow → IsOutside z
-    go true is f = absurd cc
-    go false is f = outside z is
+  lift : {F G : RunFault → Type 0} (xs ys fs gs : List (List ℕ)) → ((x : List ℕ) → Contains xs x → Contains ys x) → ((f : List ℕ) → Contains fs f → Contains gs f) → ((kind : RunFault) → F kind → G kind)
+      → (c : Cause) → Of xs fs F c → Of ys gs G c
+  lift xs ys fs gs variables functions on unset h = (h.0, variables h.0 h.1, h.2)
+  lift xs ys fs gs variables functions on (failed kind) h = on kind h
+  lift xs ys fs gs variables functions on strange h = (h.0, functions h.0 h.1, h.2)
 
-range_only : (z : ℤ) → in_range z ≡ faults Undefined → ⊥
-range_only z e = go (is_integer z) e
-  where
-    go : (b : Bool) → (if b then computes (integer z) else faults Overflow) ≡ faults Undefined → ⊥
-    go true f = cc
-    go false f = cc
+  -- those of the first part, and of the second
+  first : {F G : RunFault → Type 0} (xs ys fs gs : List (List ℕ)) → ((kind : RunFault) → F kind → G kind) → (c : Cause) → Of xs fs F c → Of (xs ++ ys) (fs ++ gs) G c
+  first xs ys fs gs = lift xs (xs ++ ys) fs (fs ++ gs) (Contains-append_left xs ys) (Contains-append_left fs gs)
 
-range_given : (z : ℤ) → (IsOutside z → ⊥) → in_range z ≡ computes (integer z)
-range_given z h = ap (λ b. if b then computes (integer z) else faults Overflow) (inside z h)
+  second : {F G : RunFault → Type 0} (xs ys fs gs : List (List ℕ)) → ((kind : RunFault) → F kind → G kind) → (c : Cause) → Of ys gs F c → Of (xs ++ ys) (fs ++ gs) G c
+  second xs ys fs gs = lift ys (xs ++ ys) gs (fs ++ gs) (Contains-append_right xs ys) (Contains-append_right fs gs)
 
--- ---- operations
+  -- ---- expressions
 
-unary_exact : (op : UnaryOp) (x v : Value) → unary_result op x ≡ computes v → exact_unary op (integer_of x) ≡ Some (integer_of v)
-unary_exact plus (integer x) v e = ap Some (sym (range_value x v e))
-unary_exact minus (integer x) v e = ap Some (sym (range_value (neg_ℤ x) v e))
-unary_exact negation (integer x) v e = absurd cc
+  mutual
+    pub goes : (x : Expr) → Goes (λ n. e.eval storage function here x n w) (value_in values x) (OfExpr x)
+    goes (int v) = goes_on (integer v) refl (λ n. refl)
+    goes (bool b) = goes_on (logical b) refl (λ n. refl)
+    goes (text t) = goes_on (string t) refl (λ n. refl)
+    goes (name x) = go (values x) refl
+      where
+        go : (o : Option Value) → values x ≡ o → Goes (λ n. known here (run_fault Undefined) o n w) o (OfExpr (name x))
+        go None is = is_undefined refl (x, first_of x [], is) (λ n. refl)
+        go (Some v) is = goes_on v refl (λ n. refl)
+    goes (call f xs) =
+        goes_bind (all_go xs) (λ n u vs. applied storage function here (intrinsic f) f vs n u) (function_value (intrinsic f))
+        (lift (exprs_variables xs) (exprs_variables xs) (exprs_functions xs) (f ∷ exprs_functions xs) (λ x c. c) (Contains-append_right (f ∷ []) (exprs_functions xs)) (λ kind h. inl h)) (λ vs is. go vs is (intrinsic f) refl)
+      where
+        go : (vs : List Value) → values_in values xs ≡ Some vs → (o : Option Op) → intrinsic f ≡ o → Goes (λ n. applied storage function here o f vs n w) (function_value o vs) (OfExpr (call f xs))
+        go vs is None at = is_strange refl (f, first_of f (exprs_functions xs), at) (λ stops n. stops.1 f vs n w)
+        go vs is (Some op) at = operation (OfExpr (call f xs)) op vs (λ kind h. inr (op, at, (vs, is, h)))
+    goes (substring a from to) = has_no_meaning refl (λ n. refl)
+    goes (unary op a) =
+        goes_bind (goes a) (λ n u x. computed here (outcome (unary_op op) (x ∷ [])) n u) (λ x. value_from (outcome (unary_op op) (x ∷ []))) (lift (expr_variables a) (expr_variables a) (expr_functions a) (expr_functions a) (λ x c. c) (λ x c. c) (λ kind h. inl h))
+        (λ x is. operation (OfExpr (unary op a)) (unary_op op) (x ∷ []) (λ kind h. inr (x ∷ [], ap (option_and_then (λ y. Some (y ∷ []))) is, h)))
+    goes (binary op a b) =
+        goes_bind (goes a) (λ n u x. bind (e.eval storage function here b n u) (λ n u y. computed here (outcome (binary_op op) (x ∷ y ∷ [])) n u)) (λ x. option_and_then (λ y. value_from (outcome (binary_op op) (x ∷ y ∷ []))) (value_in values b))
+        (first (expr_variables a) (expr_variables b) (expr_functions a) (expr_functions b) (λ kind h. inl h))
+        (λ x is.
+        goes_bind (goes b) (λ n u y. computed here (outcome (binary_op op) (x ∷ y ∷ [])) n u) (λ y. value_from (outcome (binary_op op) (x ∷ y ∷ [])))
+        (second (expr_variables a) (expr_variables b) (expr_functions a) (expr_functions b) (λ kind h. inr (inl h)))
+        (λ y at. operation (OfExpr (binary op a b)) (binary_op op) (x ∷ y ∷ []) (λ kind h. inr (inr (x ∷ y ∷ [], operands x y is at, h)))))
+      where
+        operands : (x y : Value) → value_in values a ≡ Some x → value_in values b ≡ Some y → values_in values (more a (more b none)) ≡ Some (x ∷ y ∷ [])
+        operands x y is at = λ i. option_and_then (λ u. option_map (λ us. u ∷ us) (option_and_then (λ v. Some (v ∷ [])) (at i))) (is i)
+    goes (paren a) = goes a
 
-unary_large : (op : UnaryOp) (x : Value) → unary_result op x ≡ faults Overflow → IsTooLarge (exact_unary op (integer_of x))
-unary_large plus (integer x) e = range_fault x e
-unary_large minus (integer x) e = range_fault (neg_ℤ x) e
-unary_large negation (integer x) e = absurd cc
+    pub all_go : (xs : Exprs) → Goes (λ n. e.evals storage function here xs n w) (values_in values xs) (OfExprs xs)
+    all_go none = goes_on [] refl (λ n. refl)
+    all_go (more a rest) =
+        goes_bind (goes a) (λ n u x. bind (e.evals storage function here rest n u) (λ n u xs. gives n u (x ∷ xs))) (λ x. option_map (λ xs. x ∷ xs) (values_in values rest))
+        (first (expr_variables a) (exprs_variables rest) (expr_functions a) (exprs_functions rest) (λ kind h. inl h))
+        (λ x is.
+        subst (λ o. Goes (λ n. bind (e.evals storage function here rest n w) (λ n u xs. gives n u (x ∷ xs))) o (OfExprs (more a rest))) (mapped (λ xs. x ∷ xs) (values_in values rest))
+        (goes_bind (all_go rest) (λ n u xs. gives n u (x ∷ xs)) (λ xs. Some (x ∷ xs)) (second (expr_variables a) (exprs_variables rest) (expr_functions a) (exprs_functions rest) (λ kind h. inr h)) (λ xs at. goes_on (x ∷ xs) refl (λ n. refl))))
 
-unary_only : (op : UnaryOp) (x : Value) → unary_result op x ≡ faults Undefined → ⊥
-unary_only plus (integer x) e = range_only x e
-unary_only minus (integer x) e = range_only (neg_ℤ x) e
-unary_only negation (integer x) e = cc
+  -- ---- what is seen of them
 
-unary_given : (op : UnaryOp) (x z : ℤ) → exact_unary op x ≡ Some z → (IsOutside z → ⊥) → unary_result op (integer x) ≡ computes (integer z)
-unary_given plus x z e h = let same : x ≡ z = cc in ap in_range same ∙ range_given z h
-unary_given minus x z e h = let same : neg_ℤ x ≡ z = cc in ap in_range same ∙ range_given z h
-unary_given negation x z e h = absurd cc
+  -- a value that is given is the value, and nothing changes
+  pub value_seen : {A : Type 0} {o : ℕ → Out W A} {value : Option A} {Because : Cause → Type 0} → (Because strange → Stops function) → Goes o value Because
+      → (n m : ℕ) (u : W) (a : A) → o n ≡ gives m u a → (m ≡ n) × (u ≡ w) × (value ≡ Some a)
+  value_seen calm (goes_on b is e) n m u a f = let same : gives n w b ≡ gives m u a = sym (e n) ∙ f in let value : b ≡ a = cc in (cc, cc, is ∙ ap Some value)
+  value_seen calm (is_undefined is why e) n m u a f = absurd (let wrong : over (fault here (run_fault Undefined)) ≡ gives m u a = sym (e n) ∙ f in cc)
+  value_seen calm (has_failed kind way is why e) n m u a f = absurd (let wrong : over (fault here (run_fault kind)) ≡ gives m u a = sym (e n) ∙ f in cc)
+  value_seen calm (has_no_meaning is e) n m u a f = absurd (let wrong : over (fault here no_meaning) ≡ gives m u a = sym (e n) ∙ f in cc)
+  value_seen calm (is_strange is why e) n m u a f = absurd (let wrong : over (fault (calm why).0 no_meaning) ≡ gives m u a = sym (e (calm why) n) ∙ f in cc)
 
-binary_exact : (op : BinaryOp) (x y v : Value) → binary_result op x y ≡ computes v → exact_binary op (integer_of x) (integer_of y) ≡ Some (integer_of v)
-binary_exact add (integer x) (integer y) v e = ap Some (sym (range_value (x +ℤ y) v e))
-binary_exact subtract (integer x) (integer y) v e = ap Some (sym (range_value (x -ℤ y) v e))
-binary_exact _ (integer x) (integer y) v e = absurd cc
+  -- where there is a value it is given
+  pub given_seen : {A : Type 0} {o : ℕ → Out W A} {value : Option A} {Because : Cause → Type 0} → Goes o value Because → (n : ℕ) (a : A) → value ≡ Some a → o n ≡ gives n w a
+  given_seen (goes_on b is e) n a f = let same : Some b ≡ Some a = sym is ∙ f in let value : b ≡ a = cc in e n ∙ ap (gives n w) value
+  given_seen (is_undefined is why e) n a f = absurd cc
+  given_seen (has_failed kind way is why e) n a f = absurd cc
+  given_seen (has_no_meaning is e) n a f = absurd cc
+  given_seen (is_strange is why e) n a f = absurd cc
 
-binary_large : (op : BinaryOp) (x y : Value) → binary_result op x y ≡ faults Overflow → IsTooLarge (exact_binary op (integer_of x) (integer_of y))
-binary_large add (integer x) (integer y) e = range_fault (x +ℤ y) e
-binary_large subtract (integer x) (integer y) e = range_fault (x -ℤ y) e
-binary_large _ (integer x) (integer y) e = absurd cc
+  -- the cause of a fault, which is here
+  abbrev pub Caused : (Cause → Type 0) → RunFault → Type 0
+  Caused Because kind = ((kind ≡ Undefined) × Because unset) ⊎ (IsOperationFault kind × Because (failed kind))
 
-binary_only : (op : BinaryOp) (x y : Value) → binary_result op x y ≡ faults Undefined → ⊥
-binary_only add (integer x) (integer y) e = range_only (x +ℤ y) e
-binary_only subtract (integer x) (integer y) e = range_only (x -ℤ y) e
-binary_only _ (integer x) (integer y) e = cc
+  pub fault_seen : {A : Type 0} {o : ℕ → Out W A} {value : Option A} {Because : Cause → Type 0} → (Because strange → Stops function) → Goes o value Because
+      → (n : ℕ) (at : Place) (kind : RunFault) → o n ≡ over (fault at (run_fault kind)) → (here ≡ at) × Caused Because kind
+  fault_seen calm (goes_on b is e) n at kind f = absurd (let wrong : gives n w b ≡ over (fault at (run_fault kind)) = sym (e n) ∙ f in cc)
+  fault_seen calm (is_undefined is why e) n at kind f = let same : over (fault here (run_fault Undefined)) ≡ over (fault at (run_fault kind)) = sym (e n) ∙ f in (cc, inl (cc, why))
+  fault_seen {Because = Because} calm (has_failed k way is why e) n at kind f =
+      let same : over (fault here (run_fault k)) ≡ over (fault at (run_fault kind)) = sym (e n) ∙ f in
+      let reason : k ≡ kind = cc in
+      (cc, inr (subst IsOperationFault reason way, subst (λ k. Because (failed k)) reason why))
+  fault_seen calm (has_no_meaning is e) n at kind f = absurd (let wrong : over (fault here no_meaning) ≡ over (fault at (run_fault kind)) = sym (e n) ∙ f in cc)
+  fault_seen calm (is_strange is why e) n at kind f = absurd (let wrong : over (fault (calm why).0 no_meaning) ≡ over (fault at (run_fault kind)) = sym (e (calm why) n) ∙ f in cc)
 
-binary_given : (op : BinaryOp) (x y z : ℤ) → exact_binary op x y ≡ Some z → (IsOutside z → ⊥) → binary_result op (integer x) (integer y) ≡ computes (integer z)
-binary_given add x y z e h = let same : x +ℤ y ≡ z = cc in ap in_range same ∙ range_given z h
-binary_given subtract x y z e h = let same : x -ℤ y ≡ z = cc in ap in_range same ∙ range_given z h
-binary_given _ x y z e h = absurd cc
+  -- the run is over by a fault alone
+  pub over_seen : {A : Type 0} {o : ℕ → Out W A} {value : Option A} {Because : Cause → Type 0} → (Because strange → ⊥) → Goes o value Because
+      → (n : ℕ) (f : Final W) → o n ≡ over f → (kind : Fault) × (f ≡ fault here kind)
+  over_seen calm (goes_on b is e) n f h = absurd (let wrong : gives n w b ≡ over f = sym (e n) ∙ h in cc)
+  over_seen calm (is_undefined is why e) n f h = let same : over (fault here (run_fault Undefined)) ≡ over f = sym (e n) ∙ h in (run_fault Undefined, cc)
+  over_seen calm (has_failed kind way is why e) n f h = let same : over (fault here (run_fault kind)) ≡ over f = sym (e n) ∙ h in (run_fault kind, cc)
+  over_seen calm (has_no_meaning is e) n f h = let same : over (fault here no_meaning) ≡ over f = sym (e n) ∙ h in (no_meaning, cc)
+  over_seen calm (is_strange is why e) n f h = absurd (calm why)
 
--- ---- expressions
+  intrinsic_only : (x : Expr) → IsIntrinsic x → OfExpr x strange → ⊥
+  intrinsic_only x only h = let wrong : false ≡ true = sym (ap is_some h.2) ∙ All-contains (λ f. is_some (intrinsic f) ≡ true) (expr_functions x) h.0 only h.1 in cc
 
-record Goes (r : Computed) (f : Value → Computed) (s : Computed) : Type 0 where
-  from : Value
-  was : r ≡ computes from
-  is : f from ≡ s
-
--- a value comes from one, and a fault from the first or the second
-value_goes : (r : Computed) (f : Value → Computed) (v : Value) → after r f ≡ computes v → Goes r f (computes v)
-value_goes (computes x) f v e = record { from = x; was = refl; is = e }
-value_goes (faults kind) f v e = absurd cc
-
-fault_goes : (r : Computed) (f : Value → Computed) (kind : RunFault) → after r f ≡ faults kind → (r ≡ faults kind) ⊎ Goes r f (faults kind)
-fault_goes (computes x) f kind e = inr (record { from = x; was = refl; is = e })
-fault_goes (faults first) f kind e = inl e
-
-module _ (values : List ℕ → Option Value) where
-  pub exactly : (x : Expr) (v : Value) → result values x ≡ computes v → exact values x ≡ Some (integer_of v)
-  exactly (int z) v e = let same : integer z ≡ v = cc in ap (λ u. Some (integer_of u)) same
-  exactly (name x) v e = go (values x) e
-    where
-      go : (o : Option Value) → value_or o ≡ computes v → option_map integer_of o ≡ Some (integer_of v)
-      go None f = absurd cc
-      go (Some u) f = let same : u ≡ v = cc in ap (λ t. Some (integer_of t)) same
-  exactly (unary op a) v e =
-      let g = value_goes (result values a) (unary_result op) v e in
-      ap (option_and_then (exact_unary op)) (exactly a g.from g.was) ∙ unary_exact op g.from v g.is
-  exactly (binary op a b) v e =
-      let g = value_goes (result values a) (λ x. after (result values b) (binary_result op x)) v e in
-      let h = value_goes (result values b) (binary_result op g.from) v g.is in
-      ap (option_and_then (λ x. option_and_then (exact_binary op x) (exact values b))) (exactly a g.from g.was)
-      ∙ ap (option_and_then (exact_binary op (integer_of g.from))) (exactly b h.from h.was) ∙ binary_exact op g.from h.from v h.is
-  exactly (bool b) v e = absurd cc
-  exactly (text t) v e = absurd cc
-  exactly (call f xs) v e = absurd cc
-  exactly (substring a from to) v e = absurd cc
-  exactly (paren a) v e = absurd cc
-
-  pub undefined_name : (x : Expr) → result values x ≡ faults Undefined → HasUndefined values x
-  undefined_name (int z) e = absurd cc
-  undefined_name (name x) e = go (values x) refl e
-    where
-      go : (o : Option Value) → values x ≡ o → value_or o ≡ faults Undefined → HasUndefined values (name x)
-      go None is f = (x, Contains-push [] x, is)
-      go (Some u) is f = absurd cc
-  undefined_name (unary op a) e =
-      ⊎_elim (undefined_name a) (λ g. absurd (unary_only op g.from g.is)) (fault_goes (result values a) (unary_result op) Undefined e)
-  undefined_name (binary op a b) e =
-      ⊎_elim (λ first. left (undefined_name a first))
-      (λ g. ⊎_elim (λ second. right (undefined_name b second)) (λ h. absurd (binary_only op g.from h.from h.is)) (fault_goes (result values b) (binary_result op g.from) Undefined g.is))
-      (fault_goes (result values a) (λ x. after (result values b) (binary_result op x)) Undefined e)
-    where
-      left : HasUndefined values a → HasUndefined values (binary op a b)
-      left h = (h.0, Contains-append_left (expr_names a) (expr_names b) h.0 h.1, h.2)
-
-      right : HasUndefined values b → HasUndefined values (binary op a b)
-      right h = (h.0, Contains-append_right (expr_names a) (expr_names b) h.0 h.1, h.2)
-  undefined_name (bool b) e = absurd cc
-  undefined_name (text t) e = absurd cc
-  undefined_name (call f xs) e = absurd cc
-  undefined_name (substring a from to) e = absurd cc
-  undefined_name (paren a) e = absurd cc
-
-  pub overflowing : (x : Expr) → result values x ≡ faults Overflow → HasOverflow values x
-  overflowing (int z) e = absurd cc
-  overflowing (name x) e = go (values x) e
-    where
-      go : (o : Option Value) → value_or o ≡ faults Overflow → ⊥
-      go None f = cc
-      go (Some u) f = cc
-  overflowing (unary op a) e =
-      ⊎_elim (λ first. inl (overflowing a first))
-      (λ g. inr (subst IsTooLarge (sym (ap (option_and_then (exact_unary op)) (exactly a g.from g.was))) (unary_large op g.from g.is)))
-      (fault_goes (result values a) (unary_result op) Overflow e)
-  overflowing (binary op a b) e =
-      ⊎_elim (λ first. inl (overflowing a first))
-      (λ g. inr (⊎_elim (λ second. inl (overflowing b second))
-      (λ h. inr (subst IsTooLarge
-      (sym (ap (option_and_then (λ x. option_and_then (exact_binary op x) (exact values b))) (exactly a g.from g.was) ∙ ap (option_and_then (exact_binary op (integer_of g.from))) (exactly b h.from h.was)))
-      (binary_large op g.from h.from h.is)))
-      (fault_goes (result values b) (binary_result op g.from) Overflow g.is)))
-      (fault_goes (result values a) (λ x. after (result values b) (binary_result op x)) Overflow e)
-  overflowing (bool b) e = absurd cc
-  overflowing (text t) e = absurd cc
-  overflowing (call f xs) e = absurd cc
-  overflowing (substring a from to) e = absurd cc
-  overflowing (paren a) e = absurd cc
-
-  pub given : (x : Expr) (z : ℤ) → exact values x ≡ Some z → (HasOverflow values x → ⊥) → result values x ≡ computes (integer z)
-  given (int v) z e h = let same : v ≡ z = cc in ap (λ u. computes (integer u)) same
-  given (name x) z e h = go (values x) e
-    where
-      go : (o : Option Value) → option_map integer_of o ≡ Some z → value_or o ≡ computes (integer z)
-      go None f = absurd cc
-      go (Some (integer u)) f = let same : u ≡ z = cc in ap (λ t. computes (integer t)) same
-  given (unary op a) z e h =
-      let g = went (exact values a) (exact_unary op) z e in
-      ap (λ r. after r (unary_result op)) (given a g.from g.was (λ large. h (inl large))) ∙ unary_given op g.from z g.is (λ large. h (inr (subst IsTooLarge (sym e) large)))
-  given (binary op a b) z e h =
-      let g = went (exact values a) (λ x. option_and_then (exact_binary op x) (exact values b)) z e in
-      let k = went (exact values b) (exact_binary op g.from) z g.is in
-      ap (λ r. after r (λ x. after (result values b) (binary_result op x))) (given a g.from g.was (λ large. h (inl large)))
-      ∙ ap (λ r. after r (binary_result op (integer g.from))) (given b k.from k.was (λ large. h (inr (inl large))))
-      ∙ binary_given op g.from k.from z k.is (λ large. h (inr (inr (subst IsTooLarge (sym e) large))))
-  given (bool b) z e h = absurd cc
-  given (text t) z e h = absurd cc
-  given (call f xs) z e h = absurd cc
-  given (substring a from to) z e h = absurd cc
-  given (paren a) z e h = absurd cc
-
--- ---- evaluation
+-- ---- the laws
 
 module _ (W : Type 0) where
-  pub values_exact : ValuesAreExact W
-  values_exact storage function here x n m w u v e = go (result (storage.read w) x) refl (sym (evals storage function here x n w) ∙ e)
-    where
-      go : (r : Computed) → result (storage.read w) x ≡ r → computed here r n w ≡ gives m u v → (m ≡ n) × (u ≡ w) × (exact (storage.read w) x ≡ Some (integer_of v))
-      go (computes t) is f = let same : t ≡ v = cc in (cc, cc, exactly (storage.read w) x t is ∙ ap (λ s. Some (integer_of s)) same)
-      go (faults kind) is f = absurd cc
+  pub values_given : ValuesAreGiven W
+  values_given storage function here x n m w u v only f = value_seen storage function here w (λ h. absurd (intrinsic_only storage function here w x only h)) (goes storage function here w x) n m u v f
 
-  pub exact_given : ExactIsGiven W
-  exact_given storage function here x n w z e h = evals storage function here x n w ∙ ap (λ r. computed here r n w) (given (storage.read w) x z e h)
+  pub given_values : GivenAreValues W
+  given_values storage function here x n w v f = given_seen storage function here w (goes storage function here w x) n v f
 
-  -- a fault is that of the expression
-  fault_is : (storage : Storage W) (function : Call W) (here at : Place) (x : Expr) (n : ℕ) (w : W) (kind : RunFault) → e.eval storage function here x n w ≡ over (fault at kind)
-      → result (storage.read w) x ≡ faults kind
-  fault_is storage function here at x n w kind e = go (result (storage.read w) x) (sym (evals storage function here x n w) ∙ e)
-    where
-      go : (r : Computed) → computed here r n w ≡ over (fault at kind) → r ≡ faults kind
-      go (computes t) f = absurd cc
-      go (faults k) f = let same : k ≡ kind = cc in ap faults same
+  pub fault_cause : FaultHasCause W
+  fault_cause storage function here at x n w kind only f =
+      ⊎_elim (λ h. inl h) (λ h. inr h.1) (fault_seen storage function here w (λ h. absurd (intrinsic_only storage function here w x only h)) (goes storage function here w x) n at kind f).1
 
   pub undefined_cause : UndefinedHasCause W
-  undefined_cause storage function here at x n w e = undefined_name (storage.read w) x (fault_is storage function here at x n w Undefined e)
-
-  pub overflow_cause : OverflowHasCause W
-  overflow_cause storage function here at x n w e = overflowing (storage.read w) x (fault_is storage function here at x n w Overflow e)
+  undefined_cause storage function here at x n w only f =
+      ⊎_elim (λ h. h.1) (λ h. absurd (not_undefined h.0)) (fault_seen storage function here w (λ h. absurd (intrinsic_only storage function here w x only h)) (goes storage function here w x) n at Undefined f).1
 
   pub faults_here : FaultsAreHere W
-  faults_here storage function here x n w f e = go (result (storage.read w) x) (sym (evals storage function here x n w) ∙ e)
-    where
-      go : (r : Computed) → computed here r n w ≡ over f → (kind : RunFault) × (f ≡ fault here kind)
-      go (computes t) g = absurd cc
-      go (faults k) g = let same : fault here k ≡ f = cc in (k, sym same)
+  faults_here storage function here x n w f only h = over_seen storage function here w (intrinsic_only storage function here w x only) (goes storage function here w x) n f h
 
   pub left_first : LeftIsFirst W
-  left_first storage function here op a b n w f is = ap (λ o. bind o (λ m u x. bind (e.eval storage function here b m u) (λ m u y. computed here (binary_result op x y) m u))) is
+  left_first storage function here op a b n w f is = ap (λ o. bind o (λ m u x. bind (e.eval storage function here b m u) (λ m u y. computed here (outcome (binary_op op) (x ∷ y ∷ [])) m u))) is
+
+  pub argument_first : FirstArgumentIsFirst W
+  argument_first storage function here x a rest n w f is =
+      ap (λ o. bind (bind o (λ m u y. bind (e.evals storage function here rest m u) (λ m u ys. gives m u (y ∷ ys)))) (λ m u ys. applied storage function here (intrinsic x) x ys m u)) is

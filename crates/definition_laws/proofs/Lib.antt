@@ -5,6 +5,8 @@ pub mod CommentTexts
 pub mod EntryCounts
 pub mod Budgets
 pub mod Evaluating
+pub mod Typed
+pub mod TypedActions
 pub mod Faulting
 pub mod TextLemmas
 pub mod Acting
@@ -15,6 +17,7 @@ pub mod CommentOrder
 pub mod ExactPositions
 pub mod ObjectLemmas
 pub mod AcceptedFaults
+pub mod AcceptedExpressions
 pub mod AcceptedFiles
 pub mod AcceptedGroups
 pub mod AcceptedLines

@@ -1,5 +1,5 @@
 -- Each variable is the entity of its own number, and has the place of that number.
-use Rattle.std.proofs.Common.{◌≡◌, ◌⊎◌, inl, inr, ℕ, zero, suc, ◌+◌, ◌-◌, ◌<◌, ◌≤◌, ◌==◌, Bool, true, false, ◌&&◌, List, [], ◌∷◌, ◌++◌, length, get_or, map, take, replicate, All, Option, Some, None, refl, sym, ap, ◌∙◌, subst, ⊎_elim, arith}
+use Rattle.std.proofs.Common.{◌≡◌, ◌≢◌, ◌⊎◌, inl, inr, ℕ, zero, suc, ◌+◌, ◌-◌, ◌<◌, ◌≤◌, ◌==◌, Bool, true, false, ◌&&◌, List, [], ◌∷◌, ◌++◌, length, get_or, map, take, replicate, All, Option, Some, None, refl, sym, ap, ◌∙◌, subst, ⊎_elim, arith}
 use Rattle.std.specs.Prelude.{slice_get, flat_map, sum_by, if◌then◌else◌, unwrap_or}
 use Rattle.std.specs.List.{enumerate_from}
 use Rattle.std.specs.Str.{bytes_eq}
@@ -10,13 +10,13 @@ use Rattle.std.proofs.lemmas.List.Elements.{All-replicate}
 use Rattle.std.proofs.lemmas.Option.{slice_get_within, get_or_from_slice_get, same_Some}
 use Rattle.std.proofs.lemmas.Bool.{cases_order, cases_lt, and_parts, and_from, eqb-true, eq-eqb}
 use Rattle.std.proofs.lemmas.Slice.Eq.{bytes_eq-Decides}
-use Rattle.text_base.specs.Values.{Value, integer, Held, undefined, held, integer_in}
+use Rattle.text_base.specs.Values.{Value, integer, logical, string, integers, kind_of, Held, undefined, held, integer_in}
 use Rattle.program77.specs.Tree.{SourceUnit, SourceProgram}
-use Rattle.program77.specs.Typing.{code_names, variables}
+use Rattle.program77.specs.Typing.{code_variables, variables}
 use Rattle.program77.specs.Layout.{Layout, Entity, variables_from, sequence_of, entity_of, layout_of, numeric_count, entity_named}
 use Rattle.program77.specs.Meaning.{Store, tagged, start77, read_at, write_at}
 use Rattle.project_set.specs.MapText.{map_line_of, map_lines}
-use Rattle.definition_laws.specs.Storage.{first_place, IsVariableOf, OneEntity, place_of, line_pair, pairs_of}
+use Rattle.definition_laws.specs.Storage.{first_place, IsVariableOf, OneEntity, place_of, DefinedIsRead, OtherTypesAreNotRead, line_pair, pairs_of}
 use Rattle.definition_laws.proofs.NameOrder.{in_order}
 use Rattle.definition_laws.proofs.Places.{at_some_place, in_the_list, mapped, mapped_at, numbered, numbered_at, appended, at_left, at_right}
 
@@ -24,11 +24,11 @@ use Rattle.definition_laws.proofs.Places.{at_some_place, in_the_list, mapped, ma
 
 -- variables stand in the order in which they appear
 pub in_place : (u : SourceUnit) (i j : ℕ) (x y : List ℕ) → i < j → slice_get (variables u) i ≡ Some x → slice_get (variables u) j ≡ Some y
-    → first_place (code_names u.code) x < first_place (code_names u.code) y
+    → first_place (code_variables u.code) x < first_place (code_variables u.code) y
 in_place u i j x y lt at_i at_j =
-    subst (λ z. first_place (code_names u.code) z < first_place (code_names u.code) y) (get_or_from_slice_get (variables u) i x x at_i)
-    (subst (λ z. first_place (code_names u.code) (get_or (variables u) i x) < first_place (code_names u.code) z) (get_or_from_slice_get (variables u) j y x at_j)
-    (in_order (code_names u.code) i j x lt (slice_get_within (variables u) j y at_j)))
+    subst (λ z. first_place (code_variables u.code) z < first_place (code_variables u.code) y) (get_or_from_slice_get (variables u) i x x at_i)
+    (subst (λ z. first_place (code_variables u.code) (get_or (variables u) i x) < first_place (code_variables u.code) z) (get_or_from_slice_get (variables u) j y x at_j)
+    (in_order (code_variables u.code) i j x lt (slice_get_within (variables u) j y at_j)))
 
 -- a variable stands at one place
 one_name : (u : SourceUnit) (i j : ℕ) (x : List ℕ) → slice_get (variables u) i ≡ Some x → slice_get (variables u) j ≡ Some x → i ≡ j
@@ -200,17 +200,24 @@ one_entity p u x v =
 
 -- ---- the store
 
-pub defined : (p : SourceProgram) (u : ℕ) (x : List ℕ) (w : Store) (v : Value) → IsVariableOf p u x → length w.numbers ≡ length (start77 (layout_of p)).numbers
-    → (tagged (layout_of p) u).read ((tagged (layout_of p) u).write w x v) x ≡ Some v
-defined p u x w v is size =
+read_back : (p : SourceProgram) (u : ℕ) (x : List ℕ) (w : Store) (v : Value) → IsVariableOf p u x → length w.numbers ≡ length (start77 (layout_of p)).numbers
+    → (tagged (layout_of p) u).read ((tagged (layout_of p) u).write w x v) x ≡ integer_in (held v)
+read_back p u x w v is size =
     let e = one_entity p u x is in
     let place = place_of (layout_of p) e.entity in
     ap (λ (o : Option Entity). read_at (layout_of p) (write_at (layout_of p) w o v) o) e.found
     ∙ ap integer_in (get_or-set_same w.numbers place (held v) undefined (omega (arith, size, within p e.index e.entity e.at)))
-    ∙ shown v
+
+pub defined : DefinedIsRead
+defined p u x w z = read_back p u x w (integer z)
+
+pub not_read : OtherTypesAreNotRead
+not_read p u x w v is size other = read_back p u x w v is size ∙ none v other
   where
-    shown : (v : Value) → integer_in (held v) ≡ Some v
-    shown (integer z) = refl
+    none : (v : Value) → kind_of v ≢ integers → integer_in (held v) ≡ None
+    none (integer z) other = absurd (other refl)
+    none (logical b) other = refl
+    none (string t) other = refl
 
 pub others : (p : SourceProgram) (u t : ℕ) (x y : List ℕ) (w : Store) (v : Value) → IsVariableOf p u x → IsVariableOf p t y → ((u ≡ t) × (x ≡ y) → ⊥)
     → (tagged (layout_of p) t).read ((tagged (layout_of p) u).write w x v) y ≡ (tagged (layout_of p) t).read w y

@@ -13,7 +13,7 @@ use Rattle.text_base.specs.Lines.{cut, with_first, without_return, lines, is_cut
 use Rattle.text_base.proofs.CharTests.{all_append}
 use Rattle.program77.specs.Tree.{SourceUnit}
 use Rattle.program77.specs.Typing.{variables}
-use Rattle.program77.specs.Layout.{Kind, integers, logicals, characters}
+use Rattle.text_base.specs.Values.{Kind, integers, logicals, characters}
 use Rattle.project_set.specs.MapText.{MapLine, kind_text, map_line_text, map_text, map_line_of, map_lines}
 use Rattle.project_set.specs.Report.{Counts, report_text}
 use Rattle.definition_laws.specs.Texts.{are_named, IsWellNamed, AreSmall}

@@ -1,6 +1,6 @@
 -- How the runs of a program belong together, by how many statements they may do.
 use Rattle.std.specs.Prelude.{◌≡◌, ℕ, ◌+◌, ◌≤◌, [], slice_get, Option, Some, None}
-use Rattle.text_base.specs.Values.{RunFault}
+use Rattle.text_base.specs.Values.{Fault}
 use Rattle.text_base.specs.Trees.{Action}
 use Rattle.text_base.specs.Runs.{Final, going, ended, fault, close}
 use Rattle.text_base.specs.Evaluation.{Storage, Call, action}
@@ -18,7 +18,7 @@ use Rattle.definition_laws.specs.CommentPlaces.{code_marks, how_many}
 -- A run with more statements is the same run: what has ended or faulted stays so, and what goes on has gone on before.
 pub record IsOneRun {W : Type 0} (run : ℕ → Final W) : Type 0 where
   pub ended_stays : (n m : ℕ) (w : W) (code : Option StopCode) → n ≤ m → run n ≡ ended w code → run m ≡ ended w code
-  pub fault_stays : (n m : ℕ) (here : Place) (kind : RunFault) → n ≤ m → run n ≡ fault here kind → run m ≡ fault here kind
+  pub fault_stays : (n m : ℕ) (here : Place) (kind : Fault) → n ≤ m → run n ≡ fault here kind → run m ≡ fault here kind
   pub went_on : (n m : ℕ) (w : W) → n ≤ m → run m ≡ going w → (v : W) × (run n ≡ going v)
 
 -- the run has ended or faulted

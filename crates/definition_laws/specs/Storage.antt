@@ -1,12 +1,12 @@
 -- The variables of a program and their places in the store.
-use Rattle.std.specs.Prelude.{◌≡◌, ◌↔◌, ℕ, ◌+◌, ◌<◌, All, Contains, List, [], ◌∷◌, length, map, flat_map, sum_by, slice_get, Some, None, if◌then◌else◌}
+use Rattle.std.specs.Prelude.{◌≡◌, ◌≢◌, ◌↔◌, ℕ, ℤ, ◌+◌, ◌<◌, All, Contains, List, [], ◌∷◌, length, map, flat_map, sum_by, slice_get, Some, None, if◌then◌else◌}
 use Rattle.std.specs.Str.{bytes_eq}
-use Rattle.text_base.specs.Names.{action_names}
+use Rattle.text_base.specs.Names.{action_variables}
 use Rattle.text_base.specs.Trees.{Action}
 use Rattle.text_base.specs.declared.refusal.Place.{Place}
-use Rattle.text_base.specs.Values.{Value, undefined}
+use Rattle.text_base.specs.Values.{Value, integer, integers, kind_of, undefined}
 use Rattle.program77.specs.Tree.{SourceUnit, SourceProgram}
-use Rattle.program77.specs.Typing.{code_names, variables}
+use Rattle.program77.specs.Typing.{code_variables, variables}
 use Rattle.program77.specs.Layout.{Layout, Entity, layout_of, numeric_place, entity_named}
 use Rattle.program77.specs.Meaning.{Store, tagged, start77}
 use Rattle.tree90.specs.Meaning.{Cells, Objects, cells_of, untagged}
@@ -15,13 +15,13 @@ use Rattle.project_set.specs.MapText.{MapLine, map_lines}
 
 -- ---- variables
 
--- The variables of a unit are the names of its statements.
+-- The variables of a unit are the names of its statements that don't stand before parentheses.
 abbrev pub VariablesAreNames : Type 0
-VariablesAreNames = (u : SourceUnit) (x : List ℕ) → Contains (variables u) x ↔ Contains (code_names u.code) x
+VariablesAreNames = (u : SourceUnit) (x : List ℕ) → Contains (variables u) x ↔ Contains (code_variables u.code) x
 
 -- They are named in the order of the text.
 abbrev pub NamesAreOfStatements : Type 0
-NamesAreOfStatements = (u : SourceUnit) → code_names u.code ≡ flat_map (λ (q : Place × Action). action_names q.1) (actions_of u.code)
+NamesAreOfStatements = (u : SourceUnit) → code_variables u.code ≡ flat_map (λ (q : Place × Action). action_variables q.1) (actions_of u.code)
 
 -- where a name stands first among some
 abbrev pub first_place : List (List ℕ) → List ℕ → ℕ
@@ -31,7 +31,7 @@ first_place (y ∷ ys) x = if bytes_eq y x then 0 else first_place ys x + 1
 -- They are in the order in which these appear first, so no two are the same.
 abbrev pub VariablesInOrder : Type 0
 VariablesInOrder = (u : SourceUnit) (i j : ℕ) (x y : List ℕ) → i < j → slice_get (variables u) i ≡ Some x → slice_get (variables u) j ≡ Some y
-    → first_place (code_names u.code) x < first_place (code_names u.code) y
+    → first_place (code_variables u.code) x < first_place (code_variables u.code) y
 
 -- a variable of the unit of this number
 pub record IsVariableOf (p : SourceProgram) (u : ℕ) (x : List ℕ) : Type 0 where
@@ -75,10 +75,15 @@ PlacesAreAll = (p : SourceProgram) → length (layout_of p).entities ≡ length 
 
 -- ---- the store
 
--- A variable that is defined has that value, and the others have what they had.
+-- A variable that is defined by an integer has that value, and the others have what they had.
 abbrev pub DefinedIsRead : Type 0
-DefinedIsRead = (p : SourceProgram) (u : ℕ) (x : List ℕ) (w : Store) (v : Value) → IsVariableOf p u x → length w.numbers ≡ length (start77 (layout_of p)).numbers
-    → (tagged (layout_of p) u).read ((tagged (layout_of p) u).write w x v) x ≡ Some v
+DefinedIsRead = (p : SourceProgram) (u : ℕ) (x : List ℕ) (w : Store) (z : ℤ) → IsVariableOf p u x → length w.numbers ≡ length (start77 (layout_of p)).numbers
+    → (tagged (layout_of p) u).read ((tagged (layout_of p) u).write w x (integer z)) x ≡ Some (integer z)
+
+-- Where it is defined by a value of another type, it has none.
+abbrev pub OtherTypesAreNotRead : Type 0
+OtherTypesAreNotRead = (p : SourceProgram) (u : ℕ) (x : List ℕ) (w : Store) (v : Value) → IsVariableOf p u x → length w.numbers ≡ length (start77 (layout_of p)).numbers → kind_of v ≢ integers
+    → (tagged (layout_of p) u).read ((tagged (layout_of p) u).write w x v) x ≡ None
 
 abbrev pub OthersAreKept : Type 0
 OthersAreKept = (p : SourceProgram) (u t : ℕ) (x y : List ℕ) (w : Store) (v : Value) → IsVariableOf p u x → IsVariableOf p t y → ((u ≡ t) × (x ≡ y) → ⊥)
@@ -97,9 +102,9 @@ NothingIsDefined = (layout : Layout) (u : ℕ) (x : List ℕ) → (tagged layout
 
 -- ---- objects
 
--- An object that is defined has that value, and the others have what they had.
+-- An object that is defined by an integer has that value, and the others have what they had.
 abbrev pub ObjectIsRead : Type 0
-ObjectIsRead = (home x : List ℕ) (w : Objects) (cells : Cells) (v : Value) → cells_of w home x ≡ Some cells → (untagged home).read ((untagged home).write w x v) x ≡ Some v
+ObjectIsRead = (home x : List ℕ) (w : Objects) (cells : Cells) (z : ℤ) → cells_of w home x ≡ Some cells → (untagged home).read ((untagged home).write w x (integer z)) x ≡ Some (integer z)
 
 abbrev pub OtherObjectsAreKept : Type 0
 OtherObjectsAreKept = (home other x y : List ℕ) (w : Objects) (v : Value) → ((home ≡ other) × (x ≡ y) → ⊥) → cells_of ((untagged home).write w x v) other y ≡ cells_of w other y

@@ -16,8 +16,8 @@ pub use comments::{
     written_comments_are_those_of_the_source,
 };
 pub use faults::{
-    converted_sources_fault_in_two_ways, faults_have_causes, source_expressions_are_exact,
-    written_expressions_are_exact,
+    converted_sources_fault_in_two_ways, faults_have_causes, source_expressions_give_values,
+    written_expressions_give_values,
 };
 pub use files_accepted::files_are_accepted;
 pub use lines::{a_file_is_its_lines, columns_are_bytes};

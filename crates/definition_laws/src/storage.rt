@@ -1,9 +1,9 @@
 // What holds of the variables of a FORTRAN 77 program, their places in the store and their lines of the map.
 ghost use Rattle.definition_laws.specs.Storage.{VariablesAreNames, NamesAreOfStatements, VariablesInOrder, ObjectIsRead, OtherObjectsAreKept};
 ghost use Rattle.definition_laws.specs.Storage.{VariablesHaveEntities, EntitiesAreVariables, PlacesAreApart, PlacesAreWithin, PlacesAreAll};
-ghost use Rattle.definition_laws.specs.Storage.{DefinedIsRead, OthersAreKept, LengthIsKept, StartIsUndefined, NothingIsDefined, LinesAreVariables, LinesAreAsMany};
+ghost use Rattle.definition_laws.specs.Storage.{DefinedIsRead, OtherTypesAreNotRead, OthersAreKept, LengthIsKept, StartIsUndefined, NothingIsDefined, LinesAreVariables, LinesAreAsMany};
 
-/// The variables of a unit are the names of its statements, each once, as they appear.
+/// The variables of a unit are the names of its statements that don't stand before parentheses, each once, as they appear.
 pub fn variables_are_names()
     ensures names { VariablesAreNames }
     ensures statements { NamesAreOfStatements }
@@ -20,9 +20,11 @@ pub fn each_variable_has_a_place()
     ensures all { PlacesAreAll }
 {}
 
-/// A variable that is defined has that value, and no other changes. At the start nothing is defined.
+/// A variable that is defined by an integer has that value, and by a value of another type none; no other changes. At the start
+/// nothing is defined.
 pub fn a_store_keeps_what_is_defined()
     ensures defined { DefinedIsRead }
+    ensures other_types { OtherTypesAreNotRead }
     ensures others { OthersAreKept }
     ensures length { LengthIsKept }
     ensures start { StartIsUndefined }

@@ -20,7 +20,7 @@ fn check_converted(rt: &impl Abort, alloc: Global, row: &Row, most: usize) -> Re
 
 #[test]
 fn files_are_converted(rt: HostRuntime) -> Result<(), Fail> {
-    for row in rows_of(rt.alloc(), CONVERTED, 14, 4)?.iter() {
+    for row in rows_of(rt.alloc(), CONVERTED, 19, 4)?.iter() {
         check_converted(&rt, rt.alloc(), row, 2)?;
         check_converted(&rt, rt.alloc(), row, 7)?;
     }
@@ -39,7 +39,7 @@ fn check_refused(rt: &impl Abort, alloc: Global, row: &Row) -> Result<(), Fail> 
 
 #[test]
 fn what_is_not_converted_is_refused(rt: HostRuntime) -> Result<(), Fail> {
-    for row in rows_of(rt.alloc(), REFUSED, 42, 2)?.iter() {
+    for row in rows_of(rt.alloc(), REFUSED, 47, 2)?.iter() {
         check_refused(&rt, rt.alloc(), row)?;
     }
     Ok(())

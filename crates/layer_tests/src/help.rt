@@ -79,6 +79,21 @@ pub fn words_of(alloc: Global, text: &[u8]) -> Result<Vec<String>, Fail> {
     Ok(words)
 }
 
+/// The parts of a text, each of which ends with a stroke.
+pub fn parts_of(alloc: Global, text: &[u8]) -> Result<Vec<Bytes>, AllocError> {
+    let mut parts = Vec::new(alloc);
+    let mut part = Bytes::new(alloc);
+    for byte in text {
+        if *byte == b'/' {
+            parts.push(part)?;
+            part = Bytes::new(alloc);
+        } else {
+            part.push(*byte)?;
+        }
+    }
+    Ok(parts)
+}
+
 /// The bytes that a shelf holds under a name.
 pub fn held<'a>(shelf: &'a MemoryShelf, name: &str) -> &'a [u8] {
     match shelf.held(name) {

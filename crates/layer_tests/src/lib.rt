@@ -16,6 +16,10 @@ mod help;
 #[cfg(test)]
 mod kinds;
 #[cfg(test)]
+mod names;
+#[cfg(test)]
+mod operations;
+#[cfg(test)]
 mod printed;
 #[cfg(test)]
 mod statements;

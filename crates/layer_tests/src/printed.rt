@@ -1,7 +1,8 @@
 // The text of Fortran 90 expressions, and how much room they take.
+use crate::expressions::write_tree;
 use crate::help::statement_of;
 use crate::table::rows_of;
-use crate::tables::printed::EXPRESSIONS;
+use crate::tables::printed::{EXPRESSIONS, PARENTHESES};
 use expr77::parse_expr;
 use free_printer::{print, room_behind};
 use scan77::cut;
@@ -68,6 +69,25 @@ fn expressions_are_printed(rt: HostRuntime) -> Result<(), Fail> {
         assert_eq!(rt; room_behind(&value, short), None, "row {}", row.number);
         assert_eq!(rt; room_behind(&value, 500), Some(rest), "row {}", row.number);
         row.check(&rt, 1, printed(alloc, value)?.as_slice());
+    }
+    Ok(())
+}
+
+// The tree of the expression that a text is.
+fn tree(alloc: Global, text: &[u8]) -> Result<Bytes, Fail> {
+    let mut tree = Bytes::new(alloc);
+    write_tree(alloc, &expression(alloc, text)?, &mut tree)?;
+    Ok(tree)
+}
+
+#[test]
+fn parentheses_are_kept(rt: HostRuntime) -> Result<(), Fail> {
+    let alloc = rt.alloc();
+    for row in rows_of(alloc, PARENTHESES, 39, 3)?.iter() {
+        row.check(&rt, 1, tree(alloc, row.field(0))?.as_slice());
+        let text = printed(alloc, expression(alloc, row.field(0))?)?;
+        row.check(&rt, 2, text.as_slice());
+        row.check(&rt, 1, tree(alloc, text.as_slice())?.as_slice());
     }
     Ok(())
 }

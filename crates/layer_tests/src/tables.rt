@@ -5,6 +5,8 @@ pub mod expressions;
 pub mod files;
 pub mod forms;
 pub mod kinds;
+pub mod names;
+pub mod operations;
 pub mod printed;
 pub mod statements;
 pub mod tokens;

@@ -2,14 +2,9 @@
 use Rattle.std.specs.Prelude.{ℕ, ◌+◌, Bool, false, ◌&&◌, ◌==◌, List, [], ◌∷◌, ◌++◌, map, take, sum_by, Option, Some, None, if◌then◌else◌}
 use Rattle.std.specs.List.{enumerate_from}
 use Rattle.std.specs.Str.{bytes_eq}
+use Rattle.text_base.specs.Values.{Kind, integers}
 use Rattle.program77.specs.Tree.{SourceUnit, SourceProgram}
 use Rattle.program77.specs.Typing.{variables}
-
--- the type by which an entity sees its places
-pub data Kind : Type 0 where
-  integers : Kind
-  logicals : Kind
-  characters : Kind
 
 -- a local sequence has the number of its unit, and its first entity by appearance
 pub data Home : Type 0 where
@@ -21,7 +16,7 @@ pub record Sequence : Type 0 where
   pub has_text : Bool
   pub count : ℕ
 
--- an entity with storage: its unit's number, its name, where it begins, and how many places it sees
+-- an entity with storage: its unit's number, its name, where it begins, the type by which it sees its places, and how many they are
 pub record Entity : Type 0 where
   pub unit : ℕ
   pub name : List ℕ

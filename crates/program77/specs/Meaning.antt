@@ -1,7 +1,7 @@
 -- The FORTRAN 77 meaning: a machine on a flat list of labelled statements, over tagged places.
 use Rattle.std.specs.Prelude.{ℕ, zero, suc, ℤ, List, [], ◌∷◌, replicate, slice_get, slice_index_or, slice_set, sum_by, Option, Some, None}
 use Rattle.text_base.specs.Trees.{Action}
-use Rattle.text_base.specs.Values.{Value, Held, undefined, held, integer_in, Undefined}
+use Rattle.text_base.specs.Values.{Value, Held, undefined, held, integer_in, no_meaning}
 use Rattle.text_base.specs.Runs.{Final, ended, fault, Out, gives, over, bind, close, tick, How, normal}
 use Rattle.text_base.specs.Evaluation.{Storage, Call}
 use Rattle.text_base.specs.Evaluation as e
@@ -74,9 +74,9 @@ module _ (storage : Storage Store) (call : Call Store) where
   from (line label depth here op ∷ rest) (suc k) loops n w = from rest k loops n w
   from (line label depth here op ∷ rest) zero loops n w = perform op here (from rest) loops n w
 
--- no function is referred to in this language
+-- no function is referred to but intrinsic ones
 abbrev pub no_function : Call Store
-no_function f n w = over (fault (record { file = 0; line = 0 }) Undefined)
+no_function f values n w = over (fault (record { file = 0; line = 0 }) no_meaning)
 
 -- the store before the first statement: without DATA every place is undefined
 abbrev pub start77 : Layout → Store

@@ -3,25 +3,20 @@ use Rattle.std.proofs.Common.{◌≡◌, ℕ, suc, ◌+◌, ◌<◌, ℤ, pos, B
 use Rattle.std.specs.Prelude.{slice_index_or, slice_set, unwrap_or, if◌then◌else◌}
 use Rattle.std.specs.Option.{option_map, option_and_then}
 use Rattle.std.specs.Str.{bytes_eq}
-use Rattle.text_base.specs.Values.{Value, integer, Held, undefined, holds_integer, holds_logical, held, integer_in}
+use Rattle.text_base.specs.Values.{Value, integer, logical, string, Held, undefined, holds_integer, holds_logical, held, integer_in}
 use Rattle.text_base.specs.Evaluation.{Storage}
 use Rattle.program77.specs.Layout.{Entity, entity_of, entity_named, numeric_place}
 use Rattle.program77.specs.Meaning.{Store, read_at, write_at, tagged, start77}
 use Rattle.tree90.specs.Tree.{Declared, integer_object}
-use Rattle.tree90.specs.Meaning.{Cells, integers, Object, Objects, is_object, cells_of, with_cells, integer_at, scalar, untagged, AreDeclaredAs}
+use Rattle.tree90.specs.Meaning.{Cells, integers, logicals, Object, Objects, is_object, cells_of, with_cells, integer_at, scalar, untagged, AreDeclaredAs}
 use Rattle.project_set.proofs.Names.{place_of, bytes_same}
 use Rattle.project_set.proofs.Placing.{in_first, layout_at, numeric_place_is, numeric_places, entity_named_is}
 
--- an object has the value that a place holds
-abbrev pub Shows : Held → ℤ → Type 0
-Shows undefined v = Unit {0}
-Shows (holds_integer u) v = v ≡ u
-Shows (holds_logical b) v = ⊥
-
-pub record HasValue (h : Held) (cells : Cells) : Type 0 where
-  pub value : ℤ
-  pub is : cells ≡ integers (value ∷ [])
-  pub shows : Shows h value
+-- the places of an object have the value that a place holds
+abbrev pub HasValue : Held → Cells → Type 0
+HasValue undefined cells = Unit {0}
+HasValue (holds_integer u) cells = cells ≡ integers (u ∷ [])
+HasValue (holds_logical b) cells = cells ≡ logicals (b ∷ [])
 
 -- place by place, the object of the name has the value
 abbrev pub Beside : List ℕ → List (List ℕ) → List Held → Objects → Type 0
@@ -150,8 +145,7 @@ module _ (home : List ℕ) (names : List (List ℕ)) where
   integer_shown : (h : Held) (cells : Cells) (v : Value) → HasValue h cells → integer_in h ≡ Some v → ◌≡◌ {A = Option Value} (Some (integer (unwrap_or (integer_at 1 cells) (pos 0)))) (Some v)
   integer_shown undefined cells v has e = absurd cc
   integer_shown (holds_logical b) cells v has e = absurd cc
-  integer_shown (holds_integer u) cells v has e =
-      ap (λ c. Some (integer (unwrap_or (integer_at 1 c) (pos 0)))) has.is ∙ ap (λ z. Some (integer z)) has.shows ∙ e
+  integer_shown (holds_integer u) cells v has e = ap (λ c. Some (integer (unwrap_or (integer_at 1 c) (pos 0)))) has ∙ e
 
   -- what has a value is read on both sides
   pub agrees_read : (w : Store) (w' : Objects) (x : List ℕ) (v : Value) → Agrees w w' → memory77.read w x ≡ Some v → (untagged home).read w' x ≡ Some v
@@ -165,7 +159,9 @@ module _ (home : List ℕ) (names : List (List ℕ)) where
           ap (λ c. Some (integer (unwrap_or (option_and_then (integer_at 1) c) (pos 0)))) f.is ∙ integer_shown _ f.cells v f.has here
 
   has_held : (v : Value) → HasValue (held v) (scalar v)
-  has_held (integer v) = record { value = v; is = refl; shows = refl }
+  has_held (integer v) = refl
+  has_held (logical b) = refl
+  has_held (string t) = tt
 
   -- a definition is kept on both sides
   pub agrees_write : (w : Store) (w' : Objects) (x : List ℕ) (v : Value) → Agrees w w' → Agrees (memory77.write w x v) ((untagged home).write w' x v)
@@ -185,7 +181,7 @@ starts : (home : List ℕ) (names : List (List ℕ)) (os : Objects) → AreDecla
 starts home [] [] are = tt
 starts home [] (o ∷ os) are = absurd are
 starts home (x ∷ xs) [] are = absurd are
-starts home (x ∷ xs) (o ∷ os) ((v, is), rest) = (ap (λ (p : Object). p.home) is, ap (λ (p : Object). p.name) is, record { value = v; is = ap (λ (p : Object). p.cells) is; shows = tt }, starts home xs os rest)
+starts home (x ∷ xs) (o ∷ os) ((v, is), rest) = (ap (λ (p : Object). p.home) is, ap (λ (p : Object). p.name) is, tt, starts home xs os rest)
 
 -- at the start nothing is defined, whatever the objects hold
 pub agrees_start : (home : List ℕ) (names : List (List ℕ)) (os : Objects) → AreDeclaredAs (declarations home names) os → Agrees home names (start77 (layout_at home names)) os

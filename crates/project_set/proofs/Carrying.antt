@@ -1,10 +1,10 @@
 -- What is written for a source does what the source does.
-use Rattle.std.proofs.Common.{◌≡◌, ℕ, ◌≤◌, List, [], ◌∷◌, map, Some, sym, ap, subst}
+use Rattle.std.proofs.Common.{refl, ◌≡◌, ℕ, ◌≤◌, List, [], ◌∷◌, map, Some, sym, ap, subst}
 use Rattle.std.proofs.lemmas.List.{append-nil}
 use Rattle.text_base.specs.Cards.{Comment, comments}
 use Rattle.text_base.specs.Runs.{Final, going, ended, fault}
 use Rattle.program77.specs.Tree.{SourceUnit, SourceProgram}
-use Rattle.program77.specs.Typing.{variables, code_names}
+use Rattle.program77.specs.Typing.{variables, code_variables}
 use Rattle.program77.specs.Plain.{source_unit}
 use Rattle.program77.specs.Source.{IsSource}
 use Rattle.program77.specs.Layout.{Layout}
@@ -33,11 +33,11 @@ module _ (cs : List Comment) (u : SourceUnit) where
 
   -- runs that are alike match
   matches : (x : Final Store) (y : Final Objects) → Alike u.name (variables u) x y → Matches layout lines x y
-  matches (going w) (going w') a = carried_at u.name (variables u) (distinct_first_seen (code_names u.code)) w w' a
+  matches (going w) (going w') a = carried_at u.name (variables u) (distinct_first_seen (code_variables u.code)) w w' a
   matches (going w) (ended w' c') a = absurd a
   matches (going w) (fault here' kind') a = absurd a
   matches (ended w c) (going w') a = absurd a
-  matches (ended w c) (ended w' c') a = (carried_at u.name (variables u) (distinct_first_seen (code_names u.code)) w w' a.0, a.1)
+  matches (ended w c) (ended w' c') a = (carried_at u.name (variables u) (distinct_first_seen (code_variables u.code)) w w' a.0, a.1)
   matches (ended w c) (fault here' kind') a = absurd a
   matches (fault here kind) f a = tt
 
@@ -48,13 +48,13 @@ module _ (cs : List Comment) (u : SourceUnit) where
   unit_follows : (start : Objects) → IsStart (written cs (one_unit u)) start → (n : ℕ) → (m : ℕ) × (n ≤ m) × Matches layout lines (run_main layout (Some u) n) (nested.run_main start (Some (written_unit cs 0 u)) m)
   unit_follows start begins n =
       let agree = agrees_start u.name (variables u) start (subst (λ ds. AreDeclaredAs ds start) declared_is begins) in
-      let f = (follows_unit u.name (variables u) flat.no_function nested.no_function (comments_from cs 2) u.code 1 n (start77 layout) start agree).by in
+      let f = (follows_unit u.name (variables u) flat.no_function nested.no_function (λ f values n w. refl) (comments_from cs 2) u.code 1 n (start77 layout) start agree).by in
       (f.0, f.1, matches _ _ f.2)
 
   one_does_the_same : DoesTheSame (one_unit u) (written cs (one_unit u)) (map_lines (one_unit u))
   one_does_the_same = record {
     is_map = subst (λ (l : Layout). IsMap l (written cs (one_unit u)) (map_lines (one_unit u))) (sym (layout_of_one u))
-        (subst (IsMap layout (written cs (one_unit u))) (sym lines_are) (is_map_at u.name (variables u) (distinct_first_seen (code_names u.code)) (written cs (one_unit u)) declared_is));
+        (subst (IsMap layout (written cs (one_unit u))) (sym lines_are) (is_map_at u.name (variables u) (distinct_first_seen (code_variables u.code)) (written cs (one_unit u)) declared_is));
     follows = λ start begins n.
         let f = unit_follows start begins n in (
           f.0,

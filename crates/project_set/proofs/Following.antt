@@ -1,9 +1,12 @@
 -- The run of the nested list follows the run of the flat one.
-use Rattle.std.proofs.Common.{◌≡◌, ℕ, zero, suc, ◌+◌, ◌<◌, ◌≤◌, List, [], ◌++◌, Option, Some, None, refl, sym, subst, arith}
+use Rattle.std.proofs.Common.{◌≡◌, ℕ, zero, suc, ◌+◌, ◌<◌, ◌≤◌, List, [], ◌∷◌, ◌++◌, Option, Some, None, refl, sym, subst, arith}
 use Rattle.text_base.specs.Cards.{Comment}
-use Rattle.text_base.specs.Trees.{Expr, int, bool, text, name, call, substring, unary, binary, paren, Action, assign, stop}
-use Rattle.text_base.specs.Values.{Value, integer, RunFault, Undefined}
-use Rattle.text_base.specs.Operations.{Computed, computes, faults, unary_result, binary_result}
+use Rattle.text_base.specs.Trees.{Expr, int, bool, text, name, call, substring, unary, binary, paren, Exprs, none, more, Action, assign, stop}
+use Rattle.text_base.specs.Values.{Value, integer, logical, string, Fault, run_fault, no_meaning}
+use Rattle.text_base.specs.Operations.{Computed, computes, faults, unfit, outcome}
+use Rattle.text_base.specs.Operators.{unary_op, binary_op, intrinsic}
+use Rattle.text_base.specs.declared.operation.Op.{Op}
+use Rattle.text_base.specs.declared.operation.RunFault.TheVariants.{Undefined}
 use Rattle.text_base.specs.Runs.{Final, going, ended, fault, Out, gives, over, bind, close, tick, known, computed, How, normal}
 use Rattle.text_base.specs.Evaluation.{Call}
 use Rattle.text_base.specs.Evaluation as e
@@ -33,7 +36,7 @@ module _ (home : List ℕ) (names : List (List ℕ)) where
     pub by : (m : ℕ) × (n ≤ m) × Alike x (y m)
 
   -- a fault is followed by anything
-  follows_fault : (n : ℕ) (here : Place) (kind : RunFault) (y : ℕ → Final Objects) → Follows n (fault here kind) y
+  follows_fault : (n : ℕ) (here : Place) (kind : Fault) (y : ℕ → Final Objects) → Follows n (fault here kind) y
   follows_fault n here kind y = record { by = (n, omega arith, tt) }
 
   close_bind : {W A B : Type 0} (r : Out W A) (k : ℕ → W → A → Out W B) (l : ℕ → W → B → Final W) → close r (λ n w a. close (k n w a) l) ≡ close (bind r k) l
@@ -65,7 +68,7 @@ module _ (home : List ℕ) (names : List (List ℕ)) where
   abbrev Goes : {A : Type 0} → ℕ → (ℕ → Store → A → Final Store) → (ℕ → Objects → A → Final Objects) → Type 0
   Goes {A} n k k' = (m : ℕ) → m ≤ n → (w : Store) (w' : Objects) → Agrees home names w w' → (a : A) → Follows m (k m w a) (λ j. k' j w' a)
 
-  follows_known : (here here' : Place) (kind kind' : RunFault) (o o' : Option Value) (n : ℕ) (w : Store) (w' : Objects) (k : ℕ → Store → Value → Final Store) (k' : ℕ → Objects → Value → Final Objects)
+  follows_known : (here here' : Place) (kind kind' : Fault) (o o' : Option Value) (n : ℕ) (w : Store) (w' : Objects) (k : ℕ → Store → Value → Final Store) (k' : ℕ → Objects → Value → Final Objects)
       → ((v : Value) → o ≡ Some v → o' ≡ Some v) → ((v : Value) → Follows n (k n w v) (λ j. k' j w' v)) → Follows n (close (known here kind o n w) k) (λ j. close (known here' kind' o' j w') k')
   follows_known here here' kind kind' None o' n w w' k k' same f = follows_fault n here kind _
   follows_known here here' kind kind' (Some v) o' n w w' k k' same f =
@@ -74,29 +77,54 @@ module _ (home : List ℕ) (names : List (List ℕ)) where
   follows_computed : (here here' : Place) (r : Computed) (n : ℕ) (w : Store) (w' : Objects) (k : ℕ → Store → Value → Final Store) (k' : ℕ → Objects → Value → Final Objects)
       → ((v : Value) → Follows n (k n w v) (λ j. k' j w' v)) → Follows n (close (computed here r n w) k) (λ j. close (computed here' r j w') k')
   follows_computed here here' (computes v) n w w' k k' f = f v
-  follows_computed here here' (faults kind) n w w' k k' f = follows_fault n here kind _
+  follows_computed here here' (faults kind) n w w' k k' f = follows_fault n here (run_fault kind) _
+  follows_computed here here' unfit n w w' k k' f = follows_fault n here no_meaning _
 
-  module _ (f77 : Call Store) (f90 : Call Objects) (here : Place) where
-    follows_eval : (x : Expr) (n : ℕ) (w : Store) (w' : Objects) (k : ℕ → Store → Value → Final Store) (k' : ℕ → Objects → Value → Final Objects)
-        → Agrees home names w w' → Goes n k k' → Follows n (close (e.eval (memory77 home names) f77 here x n w) k) (λ j. close (e.eval (untagged home) f90 nowhere x j w') k')
-    follows_eval (int v) n w w' k k' a go = go n (omega arith) w w' a (integer v)
-    follows_eval (name x) n w w' k k' a go =
-        follows_known here nowhere Undefined Undefined ((memory77 home names).read w x) ((untagged home).read w' x) n w w' k k' (λ v is. agrees_read home names w w' x v a is) (λ v. go n (omega arith) w w' a v)
-    follows_eval (unary op x) n w w' k k' a go =
-        rebind n (e.eval (memory77 home names) f77 here x n w) _ k (λ j. e.eval (untagged home) f90 nowhere x j w') _ k'
-        (follows_eval x n w w' _ _ a (λ m le v v' b value.
-        follows_computed here nowhere (unary_result op value) m v v' k k' (λ z. go m (omega arith) v v' b z)))
-    follows_eval (binary op x y) n w w' k k' a go =
-        rebind n (e.eval (memory77 home names) f77 here x n w) _ k (λ j. e.eval (untagged home) f90 nowhere x j w') _ k'
-        (follows_eval x n w w' _ _ a (λ m le v v' b left.
-        rebind m (e.eval (memory77 home names) f77 here y m v) _ k (λ j. e.eval (untagged home) f90 nowhere y j v') _ k'
-        (follows_eval y m v v' _ _ b (λ i le2 u u' d right.
-        follows_computed here nowhere (binary_result op left right) i u u' k k' (λ z. go i (omega arith) u u' d z)))))
-    follows_eval (bool b) n w w' k k' a go = follows_fault n here _ _
-    follows_eval (text t) n w w' k k' a go = follows_fault n here _ _
-    follows_eval (call f xs) n w w' k k' a go = follows_fault n here _ _
-    follows_eval (substring x from to) n w w' k k' a go = follows_fault n here _ _
-    follows_eval (paren x) n w w' k k' a go = follows_fault n here _ _
+  -- no function has a value
+  abbrev pub IsNoFunction : Call Store → Type 0
+  IsNoFunction f77 = (f : List ℕ) (values : List Value) (n : ℕ) (w : Store) → f77 f values n w ≡ over (fault nowhere no_meaning)
+
+  module _ (f77 : Call Store) (f90 : Call Objects) (no_function : IsNoFunction f77) (here : Place) where
+    -- an intrinsic function of the same values
+    follows_applied : (o : Option Op) (f : List ℕ) (values : List Value) (n : ℕ) (w : Store) (w' : Objects) (k : ℕ → Store → Value → Final Store) (k' : ℕ → Objects → Value → Final Objects)
+        → ((v : Value) → Follows n (k n w v) (λ j. k' j w' v))
+        → Follows n (close (e.applied (memory77 home names) f77 here o f values n w) k) (λ j. close (e.applied (untagged home) f90 nowhere o f values j w') k')
+    follows_applied None f values n w w' k k' go = subst (λ z. Follows n (close z k) (λ j. close (f90 f values j w') k')) (sym (no_function f values n w)) (follows_fault n nowhere no_meaning _)
+    follows_applied (Some op) f values n w w' k k' go = follows_computed here nowhere (outcome op values) n w w' k k' go
+
+    mutual
+      follows_eval : (x : Expr) (n : ℕ) (w : Store) (w' : Objects) (k : ℕ → Store → Value → Final Store) (k' : ℕ → Objects → Value → Final Objects)
+          → Agrees home names w w' → Goes n k k' → Follows n (close (e.eval (memory77 home names) f77 here x n w) k) (λ j. close (e.eval (untagged home) f90 nowhere x j w') k')
+      follows_eval (int v) n w w' k k' a go = go n (omega arith) w w' a (integer v)
+      follows_eval (bool b) n w w' k k' a go = go n (omega arith) w w' a (logical b)
+      follows_eval (text t) n w w' k k' a go = go n (omega arith) w w' a (string t)
+      follows_eval (name x) n w w' k k' a go =
+          follows_known here nowhere (run_fault Undefined) (run_fault Undefined) ((memory77 home names).read w x) ((untagged home).read w' x) n w w' k k' (λ v is. agrees_read home names w w' x v a is) (λ v. go n (omega arith) w w' a v)
+      follows_eval (call f xs) n w w' k k' a go =
+          rebind n (e.evals (memory77 home names) f77 here xs n w) _ k (λ j. e.evals (untagged home) f90 nowhere xs j w') _ k'
+          (follows_evals xs n w w' _ _ a (λ m le v v' b values.
+          follows_applied (intrinsic f) f values m v v' k k' (λ z. go m (omega arith) v v' b z)))
+      follows_eval (unary op x) n w w' k k' a go =
+          rebind n (e.eval (memory77 home names) f77 here x n w) _ k (λ j. e.eval (untagged home) f90 nowhere x j w') _ k'
+          (follows_eval x n w w' _ _ a (λ m le v v' b value.
+          follows_computed here nowhere (outcome (unary_op op) (value ∷ [])) m v v' k k' (λ z. go m (omega arith) v v' b z)))
+      follows_eval (binary op x y) n w w' k k' a go =
+          rebind n (e.eval (memory77 home names) f77 here x n w) _ k (λ j. e.eval (untagged home) f90 nowhere x j w') _ k'
+          (follows_eval x n w w' _ _ a (λ m le v v' b left.
+          rebind m (e.eval (memory77 home names) f77 here y m v) _ k (λ j. e.eval (untagged home) f90 nowhere y j v') _ k'
+          (follows_eval y m v v' _ _ b (λ i le2 u u' d right.
+          follows_computed here nowhere (outcome (binary_op op) (left ∷ right ∷ [])) i u u' k k' (λ z. go i (omega arith) u u' d z)))))
+      follows_eval (substring x from to) n w w' k k' a go = follows_fault n here _ _
+      follows_eval (paren x) n w w' k k' a go = follows_eval x n w w' k k' a go
+
+      follows_evals : (xs : Exprs) (n : ℕ) (w : Store) (w' : Objects) (k : ℕ → Store → List Value → Final Store) (k' : ℕ → Objects → List Value → Final Objects)
+          → Agrees home names w w' → Goes n k k' → Follows n (close (e.evals (memory77 home names) f77 here xs n w) k) (λ j. close (e.evals (untagged home) f90 nowhere xs j w') k')
+      follows_evals none n w w' k k' a go = go n (omega arith) w w' a []
+      follows_evals (more x rest) n w w' k k' a go =
+          rebind n (e.eval (memory77 home names) f77 here x n w) _ k (λ j. e.eval (untagged home) f90 nowhere x j w') _ k'
+          (follows_eval x n w w' _ _ a (λ m le v v' b first.
+          rebind m (e.evals (memory77 home names) f77 here rest m v) _ k (λ j. e.evals (untagged home) f90 nowhere rest j v') _ k'
+          (follows_evals rest m v v' _ _ b (λ i le2 u u' d others. go i (omega arith) u u' d (first ∷ others)))))
 
     follows_define : (d : Expr) (v : Value) (n : ℕ) (w : Store) (w' : Objects) (k : ℕ → Store → How → Final Store) (k' : ℕ → Objects → How → Final Objects)
         → Agrees home names w w' → Goes n k k' → Follows n (close (e.define (memory77 home names) f77 here d v n w) k) (λ j. close (e.define (untagged home) f90 nowhere d v j w') k')
@@ -121,22 +149,22 @@ module _ (home : List ℕ) (names : List (List ℕ)) where
         follows_define d value i v v' k k' b (λ h le2 u u' c how. go h (omega arith) u u' c how))))
 
   -- the lines of a list, and what follows them, whatever the comments
-  module _ (f77 : Call Store) (f90 : Call Objects) (cs : List Comment) where
+  module _ (f77 : Call Store) (f90 : Call Objects) (no_function : IsNoFunction f77) (cs : List Comment) where
     follows_body : (c : source.Code) (i : ℕ) (left : List Remark) (depth n : ℕ) (rest : List Line) (loops : List Open) (w : Store) (w' : Objects) (k : ℕ → Store → Unit {0} → Final Store) (k' : ℕ → Objects → How → Final Objects)
         → Agrees home names w w'
         → ((m : ℕ) → m ≤ n → (v : Store) (v' : Objects) → Agrees home names v v' → Follows m (close (from (memory77 home names) f77 rest 0 loops m v) k) (λ j. k' j v' normal))
         → Follows n (close (from (memory77 home names) f77 (lines c depth rest) 0 loops n w) k) (λ j. close (body (untagged home) f90 (written_list cs i left c).0 j w') k')
     follows_body source.done i left depth n rest loops w w' k k' a after = after n (omega arith) w w' a
-    follows_body (source.item label here source.continue more) i left depth n rest loops w w' k k' a after =
-        follows_body more (i + 1) (left ++ remarks_at cs i) depth n rest loops w w' k k' a after
-    follows_body (source.item label here (source.simple x) more) i left depth n rest loops w w' k k' a after =
-        rebind n (e.action (memory77 home names) f77 here x n w) (proceed (from (memory77 home names) f77 (lines more depth rest)) loops) k (λ j. e.action (untagged home) f90 nowhere x j w') _ k'
-        (follows_action f77 f90 here x n w w' _ _ a (λ m le v v' b how. step (λ m le v v' b. follows_body more (i + 1) [] depth m rest loops v v' k k' b (λ i le2 u u' d. after i (omega arith) u u' d)) how m le v v' b))
+    follows_body (source.item label here source.continue behind) i left depth n rest loops w w' k k' a after =
+        follows_body behind (i + 1) (left ++ remarks_at cs i) depth n rest loops w w' k k' a after
+    follows_body (source.item label here (source.simple x) behind) i left depth n rest loops w w' k k' a after =
+        rebind n (e.action (memory77 home names) f77 here x n w) (proceed (from (memory77 home names) f77 (lines behind depth rest)) loops) k (λ j. e.action (untagged home) f90 nowhere x j w') _ k'
+        (follows_action f77 f90 no_function here x n w w' _ _ a (λ m le v v' b how. step (λ m le v v' b. follows_body behind (i + 1) [] depth m rest loops v v' k k' b (λ i le2 u u' d. after i (omega arith) u u' d)) how m le v v' b))
       where
         step : ((m : ℕ) → m ≤ n → (v : Store) (v' : Objects) → Agrees home names v v'
-            → Follows m (close (from (memory77 home names) f77 (lines more depth rest) 0 loops m v) k) (λ j. close (body (untagged home) f90 (written_list cs (i + 1) [] more).0 j v') k'))
+            → Follows m (close (from (memory77 home names) f77 (lines behind depth rest) 0 loops m v) k) (λ j. close (body (untagged home) f90 (written_list cs (i + 1) [] behind).0 j v') k'))
             → (how : How) (m : ℕ) → m ≤ n → (v : Store) (v' : Objects) → Agrees home names v v'
-            → Follows m (close (proceed (from (memory77 home names) f77 (lines more depth rest)) loops m v how) k) (λ j. close (next how (body (untagged home) f90 (written_list cs (i + 1) [] more).0) j v') k')
+            → Follows m (close (proceed (from (memory77 home names) f77 (lines behind depth rest)) loops m v how) k) (λ j. close (next how (body (untagged home) f90 (written_list cs (i + 1) [] behind).0) j v') k')
         step later normal m le v v' b = later m le v v' b
 
     -- a whole unit, whose END is counted

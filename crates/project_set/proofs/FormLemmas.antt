@@ -19,7 +19,7 @@ use Rattle.tree77.specs.Spelling.{room_of, refused_actions, refused_declarations
 use Rattle.tree77.specs.Statements as s
 use Rattle.tree77.specs.Statements.{Header, Simple, Statement}
 use Rattle.tree77.specs.TransferForms as t
-use Rattle.project_set.proofs.OperandLemmas.{is_sound, word_is_name, expression_is_sound}
+use Rattle.project_set.proofs.OperandLemmas.{IsSoundExpr, word_is_name, expression_is_sound}
 
 -- ---- what no pieces of a form stand for
 
@@ -136,7 +136,7 @@ IsSoundHeader (s.program x) = is_name x ≡ true
 IsSoundHeader _ = Unit {0}
 
 abbrev IsSoundSimple : Simple → Type 0
-IsSoundSimple (s.assign d x) = (is_sound d ≡ true) × (is_sound x ≡ true)
+IsSoundSimple (s.assign d x) = IsSoundExpr d × IsSoundExpr x
 IsSoundSimple _ = Unit {0}
 
 abbrev pub IsSound : Statement → Type 0
@@ -158,7 +158,7 @@ sound_other (s.simple a) e = sound_simple a e
 sound_other _ e = tt
 
 -- what an assignment stands for
-assigned_is_sound : (a b : Expr) (x : Statement) → is_sound a ≡ true → is_sound b ≡ true → c.assigned a b ≡ Some x → IsSound x
+assigned_is_sound : (a b : Expr) (x : Statement) → IsSoundExpr a → IsSoundExpr b → c.assigned a b ≡ Some x → IsSound x
 assigned_is_sound (tree.call f tree.none) b x left right e = subst IsSound (same_Some _ x e) tt
 assigned_is_sound (tree.call f (tree.more y ys)) b x left right e = subst IsSound (same_Some _ x e) (left, right)
 assigned_is_sound (tree.name y) b x left right e = subst IsSound (same_Some _ x e) (left, right)
@@ -169,7 +169,7 @@ assignment_is_sound : (depth : ℕ) (u : List Piece) (x : Statement) (ps : List 
 assignment_is_sound depth u x ps m =
     let sides = m.1 in
     let value = sides.6 in
-    let right : is_sound m.0.1 ≡ true = sym (ap is_sound (same_Some value.0.1 m.0.1 value.2)) ∙ expression_is_sound value.1.1 value.1.6.0 value.0.1 value.1.6.1 in
+    let right : IsSoundExpr m.0.1 = subst IsSoundExpr (same_Some value.0.1 m.0.1 value.2) (expression_is_sound value.1.1 value.1.6.0 value.0.1 value.1.6.1) in
     assigned_is_sound m.0.0 m.0.1 x (expression_is_sound sides.0 sides.5.0 m.0.0 sides.5.1) right m.2
 
 program_is_sound : (depth : ℕ) (u : List Piece) (x : Statement) (ps : List Part) → Matches (made s.header c.program) depth u x ps → IsSound x

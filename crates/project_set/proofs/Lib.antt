@@ -28,3 +28,4 @@ pub mod StatementLemmas
 pub mod CardCount
 pub mod ConversionLemmas
 pub mod HeadingLemmas
+mod TypedLemmas

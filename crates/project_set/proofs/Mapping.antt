@@ -5,16 +5,17 @@ use Rattle.std.specs.List.{enumerate_from}
 use Rattle.std.specs.Option.{option_map, option_and_then}
 use Rattle.std.proofs.lemmas.List.{append_cancel_left}
 use Rattle.std.proofs.lemmas.Option.{slice_get-map, slice_get-get_or, slice_get_within, get_or_from_slice_get}
-use Rattle.text_base.specs.Values.{Held, undefined, holds_integer, holds_logical}
-use Rattle.program77.specs.Layout.{Kind, integers, logicals, Sequence, Entity, Layout, sequence_of, entity_of, numeric_place, text_place}
+use Rattle.text_base.specs.Values.{Held, undefined, holds_integer, holds_logical, Kind, integers, logicals}
+use Rattle.program77.specs.Layout.{Sequence, Entity, Layout, sequence_of, entity_of, numeric_place, text_place}
 use Rattle.program77.specs.Meaning.{Store}
 use Rattle.tree90.specs.Tree.{integer_object, FreeProgram}
-use Rattle.tree90.specs.Meaning.{Objects, integer_at, object_integer, declared_in}
+use Rattle.tree90.specs.Meaning.{Cells, Objects, cells_of, integer_at, declared_in}
+use Rattle.tree90.specs.Meaning.{integers as integer_cells}
 use Rattle.project_set.specs.MapText.{MapLine, home_text, sequence_text, map_line_of}
 use Rattle.project_set.specs.Match.{IsSeen, Covers, object_place, OneLine, IsObjectPlace, IsNeeded, IsMap, held_in, held_at, byte_in, IsCarried}
 use Rattle.project_set.proofs.Names.{Distinct, one_place, place_at}
 use Rattle.project_set.proofs.Placing.{in_first, layout_at, numeric_place_is}
-use Rattle.project_set.proofs.Agreeing.{declarations, Agrees, Shows, found}
+use Rattle.project_set.proofs.Agreeing.{declarations, Agrees, HasValue, found}
 
 -- what stands in a list stands at some place
 at_some_place : {X : Type 0} (xs : List X) (x : X) → Contains xs x → (i : ℕ) × (slice_get xs i ≡ Some x)
@@ -213,13 +214,15 @@ module _ (home : List ℕ) (names : List (List ℕ)) where
         go true e = e
         go false e = absurd cc
 
-    -- a place that holds something, seen through its line
-    record Carrying (w : Store) (w' : Objects) (s o : ℕ) (h : Held) (line : MapLine) : Type 0 where
-      value : ℤ
-      has : object_integer w' line.home line.object (object_place line o) ≡ Some value
-      shows : Shows h value
+    -- a place that holds something is that of integers, and the object of its line has the value
+    record Carrying (w : Store) (w' : Objects) (s o : ℕ) (h : Held) (k : Kind) (line : MapLine) : Type 0 where
+      kind : k ≡ integers
+      cells : Cells
+      is : cells_of w' line.home line.object ≡ Some cells
+      first : object_place line o ≡ 1
+      has : HasValue h cells
 
-    carrying : (w : Store) (w' : Objects) (s o : ℕ) (h : Held) (k : Kind) (line : MapLine) → Agrees home names w w' → held_at layout w s o ≡ Some h → Contains map_lines_at line → Covers layout line s o k → Carrying w w' s o h line
+    carrying : (w : Store) (w' : Objects) (s o : ℕ) (h : Held) (k : Kind) (line : MapLine) → Agrees home names w w' → held_at layout w s o ≡ Some h → Contains map_lines_at line → Covers layout line s o k → Carrying w w' s o h k line
     carrying w w' s o h k line a e here covers =
         let place = at_some_place map_lines_at line here in
         let c = (covering s o k place.0 line place.1 covers).1 in
@@ -228,14 +231,16 @@ module _ (home : List ℕ) (names : List (List ℕ)) where
         let number : numeric_place layout s o ≡ s = ap (numeric_place layout s) c.offset ∙ numeric_place_is home names s (omega (arith, within)) in
         let read : slice_get w.numbers s ≡ Some h = ap (slice_get w.numbers) (sym number) ∙ held_is w s o h (slice_get layout.sequences s) e in
         let there : slice_index_or w.numbers s undefined ≡ h = get_or_from_slice_get w.numbers s h undefined read in
-        let shown : object_integer w' home c.variable 1 ≡ Some f.has.value = ap (option_and_then (integer_at 1)) f.is ∙ ap (integer_at 1) f.has.is in
-        let first : object_place (map_line_of (home ∷ []) (in_first c.variable)) o ≡ 1 = ap (object_place (map_line_of (home ∷ []) (in_first c.variable))) c.offset in
         record {
-          value = f.has.value;
-          has = subst (λ (z : MapLine). object_integer w' z.home z.object (object_place z o) ≡ Some f.has.value) c.is
-              (ap (object_integer w' home c.variable) first ∙ shown);
-          shows = subst (λ z. Shows z f.has.value) there f.has.shows;
+          kind = c.kind;
+          cells = f.cells;
+          is = subst (λ (z : MapLine). cells_of w' z.home z.object ≡ Some f.cells) c.is f.is;
+          first = subst (λ (z : MapLine). object_place z o ≡ 1) c.is (ap (object_place (map_line_of (home ∷ []) (in_first c.variable))) c.offset);
+          has = subst (λ z. HasValue z f.cells) there f.has;
         }
+
+    no_logicals : ◌≡◌ {A = Kind} logicals integers → ⊥
+    no_logicals e = cc
 
     no_byte : (w : Store) (s o b : ℕ) (q : Option Sequence) → slice_get layout.sequences s ≡ q → byte_in w.texts (text_place layout s o) o q ≡ Some b → ⊥
     no_byte w s o b None is e = cc
@@ -250,7 +255,9 @@ module _ (home : List ℕ) (names : List (List ℕ)) where
 
     pub carried_at : (w : Store) (w' : Objects) → Agrees home names w w' → IsCarried layout map_lines_at w w'
     carried_at w w' a = record {
-      integer = λ s o v line e here covers. let c = carrying w w' s o (holds_integer v) integers line a e here covers in c.has ∙ ap Some c.shows;
-      logical = λ s o b line e here covers. let c = carrying w w' s o (holds_logical b) logicals line a e here covers in absurd c.shows;
+      integer = λ s o v line e here covers.
+          let c = carrying w w' s o (holds_integer v) integers line a e here covers in
+          ap (option_and_then (integer_at (object_place line o))) c.is ∙ ap (λ n. integer_at n c.cells) c.first ∙ ap (integer_at 1) c.has;
+      logical = λ s o b line e here covers. let c = carrying w w' s o (holds_logical b) logicals line a e here covers in absurd (no_logicals c.kind);
       byte = λ s o b line e here covers. absurd (no_byte w s o b (slice_get layout.sequences s) refl e);
     }

@@ -1,21 +1,22 @@
 -- Names that are added one after another are those that are seen first.
-use Rattle.std.proofs.Common.{◌≡◌, ℕ, ◌+◌, ◌<◌, Bool, true, false, not, ◌||◌, List, [], ◌∷◌, ◌++◌, map, filter, length, get_or, take, if◌then◌else◌, refl, sym, ap, ◌∙◌, append_assoc}
-use Rattle.std.specs.List.{list_any}
+use Rattle.std.proofs.Common.{◌≡◌, ℕ, ◌+◌, ◌<◌, Bool, true, false, not, ◌&&◌, ◌||◌, List, [], ◌∷◌, ◌++◌, map, filter, length, get_or, take, if◌then◌else◌, refl, sym, ap, ◌∙◌, append_assoc}
+use Rattle.std.specs.List.{list_all, list_any}
 use Rattle.std.specs.Str.{bytes_eq}
 use Rattle.std.specs.Borrow.{Bor}
 use Rattle.std.proofs.lemmas.List.{take_more, append-nil}
 use Rattle.std.proofs.lemmas.List.Elements.{filter-append}
+use Rattle.std.proofs.lemmas.List.Folds.{list_all-append}
 use Rattle.std.proofs.lemmas.List.Sums.{fold-append}
 use Rattle.std.proofs.lemmas.Map.Views.{any-filter_same}
 use Rattle.std.proofs.lemmas.Slice.Eq.{bytes_eq-Decides}
-use Rattle.program77.specs.Typing.{first_seen, code_names, stmt_names}
-use Rattle.text_base.specs.Names.{expr_names, exprs_names}
+use Rattle.program77.specs.Typing.{first_seen, code_variables, stmt_variables, code_functions, stmt_functions}
+use Rattle.text_base.specs.Names.{expr_variables, exprs_variables, expr_functions, exprs_functions}
 use Rattle.expr_tree.specs.Plain.{expr_of, exprs_of}
 use Rattle.expr_tree.specs.declared.tree.Expr.{Expr}
 use Rattle.program77.specs.Plain.{code_of, first_stmt}
 use Rattle.unit77.specs.declared.tree.Item77.{Item77}
 use Rattle.unit77.specs.Views.{item_of, items_of}
-use Rattle.project_set.specs.Variables.{with_name, with_names}
+use Rattle.project_set.specs.Variables.{with_name, with_names, is_apart}
 use Rattle.project_set.proofs.ItemLemmas.{first_of_items}
 
 abbrev differs : List ℕ → List ℕ → Bool
@@ -118,6 +119,16 @@ seen_all xs (y ∷ ys) =
 pub seen : (xs : List (List ℕ)) → with_names [] xs ≡ first_seen xs
 seen xs = seen_all [] xs
 
+-- a name is among those that are seen first where it is among all
+pub any_first : (x : List ℕ) (xs : List (List ℕ)) → list_any (bytes_eq x) (first_seen xs) ≡ list_any (bytes_eq x) xs
+any_first x [] = refl
+any_first x (y ∷ ys) = go (bytes_eq x y) refl (any_first x ys)
+  where
+    go : (b : Bool) → bytes_eq x y ≡ b → list_any (bytes_eq x) (first_seen ys) ≡ list_any (bytes_eq x) ys
+        → (bytes_eq x y || list_any (bytes_eq x) (filter (differs y) (first_seen ys))) ≡ (bytes_eq x y || list_any (bytes_eq x) ys)
+    go true e rest = ap (λ b. b || list_any (bytes_eq x) (filter (differs y) (first_seen ys))) e ∙ sym (ap (λ b. b || list_any (bytes_eq x) ys) e)
+    go false e rest = ap (λ c. bytes_eq x y || c) (any-others y x (first_seen ys) e ∙ rest)
+
 -- ---- the names of expressions
 
 -- names after others
@@ -125,47 +136,84 @@ pub names_both : (start xs ys : List (List ℕ)) → with_names start (xs ++ ys)
 names_both start xs ys = fold-append with_name start xs ys
 
 -- the names of a list of expressions, and of one more
-exprs_names_more : (xs : List Expr) (x : Expr) → exprs_names (exprs_of (map expr_of (xs ++ x ∷ []))) ≡ exprs_names (exprs_of (map expr_of xs)) ++ expr_names (expr_of x)
-exprs_names_more [] x = append-nil (expr_names (expr_of x))
-exprs_names_more (y ∷ ys) x =
-    ap (λ l. expr_names (expr_of y) ++ l) (exprs_names_more ys x)
-    ∙ sym (append_assoc (expr_names (expr_of y)) (exprs_names (exprs_of (map expr_of ys))) (expr_names (expr_of x)))
+exprs_variables_more : (xs : List Expr) (x : Expr) → exprs_variables (exprs_of (map expr_of (xs ++ x ∷ []))) ≡ exprs_variables (exprs_of (map expr_of xs)) ++ expr_variables (expr_of x)
+exprs_variables_more [] x = append-nil (expr_variables (expr_of x))
+exprs_variables_more (y ∷ ys) x =
+    ap (λ l. expr_variables (expr_of y) ++ l) (exprs_variables_more ys x)
+    ∙ sym (append_assoc (expr_variables (expr_of y)) (exprs_variables (exprs_of (map expr_of ys))) (expr_variables (expr_of x)))
 
 -- the step of a loop that adds the names of one more expression
 pub added_expr : (exprs : List Expr) (i : ℕ) (expr : Expr) (start out new : List (List ℕ))
     → expr ≡ get_or exprs i expr → i < length exprs
-    → out ≡ with_names start (exprs_names (exprs_of (map expr_of (take i exprs)))) → new ≡ with_names out (expr_names (expr_of expr))
-    → new ≡ with_names start (exprs_names (exprs_of (map expr_of (take (i + 1) exprs))))
+    → out ≡ with_names start (exprs_variables (exprs_of (map expr_of (take i exprs)))) → new ≡ with_names out (expr_variables (expr_of expr))
+    → new ≡ with_names start (exprs_variables (exprs_of (map expr_of (take (i + 1) exprs))))
 added_expr exprs i expr start out new is lt before step =
     step
-    ∙ ap (λ names. with_names names (expr_names (expr_of expr))) before
-    ∙ sym (names_both start (exprs_names (exprs_of (map expr_of (take i exprs)))) (expr_names (expr_of expr)))
-    ∙ ap (with_names start) (sym (exprs_names_more (take i exprs) expr))
-    ∙ ap (λ (x : Expr). with_names start (exprs_names (exprs_of (map expr_of (take i exprs ++ x ∷ []))))) is
-    ∙ ap (λ l. with_names start (exprs_names (exprs_of (map expr_of l)))) (sym (take_more exprs i expr lt))
+    ∙ ap (λ names. with_names names (expr_variables (expr_of expr))) before
+    ∙ sym (names_both start (exprs_variables (exprs_of (map expr_of (take i exprs)))) (expr_variables (expr_of expr)))
+    ∙ ap (with_names start) (sym (exprs_variables_more (take i exprs) expr))
+    ∙ ap (λ (x : Expr). with_names start (exprs_variables (exprs_of (map expr_of (take i exprs ++ x ∷ []))))) is
+    ∙ ap (λ l. with_names start (exprs_variables (exprs_of (map expr_of l)))) (sym (take_more exprs i expr lt))
 
 -- ---- the names of items
 
 -- one more item
-names_more : (is : List Item77) (i : Item77) → code_names (code_of (items_of (is ++ i ∷ []))) ≡ code_names (code_of (items_of is)) ++ stmt_names (first_stmt (item_of i))
-names_more [] i = ap code_names (first_of_items i []) ∙ append-nil (stmt_names (first_stmt (item_of i)))
+names_more : (is : List Item77) (i : Item77) → code_variables (code_of (items_of (is ++ i ∷ []))) ≡ code_variables (code_of (items_of is)) ++ stmt_variables (first_stmt (item_of i))
+names_more [] i = ap code_variables (first_of_items i []) ∙ append-nil (stmt_variables (first_stmt (item_of i)))
 names_more (x ∷ is) i =
-    let own = stmt_names (first_stmt (item_of x)) in
-    let more = stmt_names (first_stmt (item_of i)) in
-    ap code_names (first_of_items x (is ++ i ∷ []))
+    let own = stmt_variables (first_stmt (item_of x)) in
+    let more = stmt_variables (first_stmt (item_of i)) in
+    ap code_variables (first_of_items x (is ++ i ∷ []))
     ∙ ap (λ l. own ++ l) (names_more is i)
-    ∙ sym (append_assoc own (code_names (code_of (items_of is))) more)
-    ∙ ap (λ l. l ++ more) (sym (ap code_names (first_of_items x is)))
+    ∙ sym (append_assoc own (code_variables (code_of (items_of is))) more)
+    ∙ ap (λ l. l ++ more) (sym (ap code_variables (first_of_items x is)))
 
 -- the step of a loop that adds the names of one more item
 pub added_more : (items : List Item77) (i : ℕ) (item : Item77) (start out new : List (List ℕ))
     → item ≡ get_or items i item → i < length items
-    → out ≡ with_names start (code_names (code_of (items_of (take i items)))) → new ≡ with_names out (stmt_names (first_stmt (item_of item)))
-    → new ≡ with_names start (code_names (code_of (items_of (take (i + 1) items))))
+    → out ≡ with_names start (code_variables (code_of (items_of (take i items)))) → new ≡ with_names out (stmt_variables (first_stmt (item_of item)))
+    → new ≡ with_names start (code_variables (code_of (items_of (take (i + 1) items))))
 added_more items i item start out new is lt before step =
     step
-    ∙ ap (λ names. with_names names (stmt_names (first_stmt (item_of item)))) before
-    ∙ sym (fold-append with_name start (code_names (code_of (items_of (take i items)))) (stmt_names (first_stmt (item_of item))))
+    ∙ ap (λ names. with_names names (stmt_variables (first_stmt (item_of item)))) before
+    ∙ sym (fold-append with_name start (code_variables (code_of (items_of (take i items)))) (stmt_variables (first_stmt (item_of item))))
     ∙ ap (λ l. with_names start l) (sym (names_more (take i items) item))
-    ∙ ap (λ (x : Item77). with_names start (code_names (code_of (items_of (take i items ++ x ∷ []))))) is
-    ∙ ap (λ l. with_names start (code_names (code_of (items_of l)))) (sym (take_more items i item lt))
+    ∙ ap (λ (x : Item77). with_names start (code_variables (code_of (items_of (take i items ++ x ∷ []))))) is
+    ∙ ap (λ l. with_names start (code_variables (code_of (items_of l)))) (sym (take_more items i item lt))
+
+-- ---- names apart from others
+
+module _ (names : List (List ℕ)) where
+  pub apart_both : (xs ys : List (List ℕ)) → list_all (is_apart names) (xs ++ ys) ≡ (list_all (is_apart names) xs && list_all (is_apart names) ys)
+  apart_both = list_all-append (is_apart names)
+
+  pub apart_three : (xs ys zs : List (List ℕ)) → list_all (is_apart names) ((xs ++ ys) ++ zs) ≡ (list_all (is_apart names) xs && (list_all (is_apart names) ys && list_all (is_apart names) zs))
+  apart_three xs ys zs =
+      apart_both (xs ++ ys) zs ∙ ap (λ b. b && list_all (is_apart names) zs) (apart_both xs ys)
+      ∙ go (list_all (is_apart names) xs) (list_all (is_apart names) ys) (list_all (is_apart names) zs)
+    where
+      go : (a b c : Bool) → ((a && b) && c) ≡ (a && (b && c))
+      go true b c = refl
+      go false b c = refl
+
+  -- of a list of expressions, where it is so of each
+  pub apart_list : (xs : List Expr) → list_all (is_apart names) (exprs_functions (exprs_of (map expr_of xs))) ≡ list_all (λ x. list_all (is_apart names) (expr_functions (expr_of x))) xs
+  apart_list [] = refl
+  apart_list (x ∷ xs) =
+      apart_both (expr_functions (expr_of x)) (exprs_functions (exprs_of (map expr_of xs)))
+      ∙ ap (λ b. list_all (is_apart names) (expr_functions (expr_of x)) && b) (apart_list xs)
+
+  -- and of a list of items
+  pub apart_items : (is : List Item77) → list_all (is_apart names) (code_functions (code_of (items_of is))) ≡ list_all (λ i. list_all (is_apart names) (stmt_functions (first_stmt (item_of i)))) is
+  apart_items [] = refl
+  apart_items (i ∷ is) =
+      ap (λ c. list_all (is_apart names) (code_functions c)) (first_of_items i is)
+      ∙ apart_both (stmt_functions (first_stmt (item_of i))) (code_functions (code_of (items_of is)))
+      ∙ ap (λ b. list_all (is_apart names) (stmt_functions (first_stmt (item_of i))) && b) (apart_items is)
+
+-- what the set lacks is apart
+pub apart_of_set : (x y : List ℕ) (ks : List (Bor (List ℕ))) (names : List (List ℕ)) (r : Bool)
+    → y ≡ x → map (λ (k : Bor (List ℕ)). k.now) ks ≡ names → r ≡ list_any (λ (k : Bor (List ℕ)). bytes_eq y k.now) ks → not r ≡ is_apart names x
+apart_of_set x y ks names r same step there = ap not (there ∙ sym (is_there x y ks names _ same step refl))
+
+pub ruleset apart_parts = (apart_both, apart_three, apart_list)

@@ -1,7 +1,7 @@
 -- What is written for a source that is converted is proper.
-use Rattle.std.proofs.Common.{◌≡◌, ℕ, ◌+◌, true, not, List, [], ◌∷◌, ◌++◌, map, Some, None, refl, sym, ap, ◌∙◌, subst}
+use Rattle.std.proofs.Common.{◌≡◌, ℕ, ◌+◌, Bool, true, false, not, ◌&&◌, ◌||◌, List, [], ◌∷◌, ◌++◌, map, Option, Some, None, refl, sym, ap, ◌∙◌, subst}
 use Rattle.std.specs.Prelude.{if◌then◌else◌}
-use Rattle.std.specs.List.{list_all}
+use Rattle.std.specs.List.{list_all, list_any}
 use Rattle.std.specs.Str.{bytes_eq}
 use Rattle.std.proofs.lemmas.List.{append-nil}
 use Rattle.std.proofs.lemmas.List.Folds.{list_all-map}
@@ -9,7 +9,8 @@ use Rattle.std.proofs.lemmas.Bool.{and_from, and_parts}
 use Rattle.text_base.specs.Lines.{cut}
 use Rattle.text_base.specs.Cards.{Comment, cards, comments}
 use Rattle.text_base.specs.Chars.{is_name}
-use Rattle.text_base.specs.Names.{action_names}
+use Rattle.text_base.specs.ExpressionKinds.{is_typed_action}
+use Rattle.text_base.specs.Values.{Kind, integers}
 use Rattle.program77.specs.Plain.{source_unit}
 use Rattle.program77.specs.SourceReading.{read_of, read_unit}
 use Rattle.program77.specs.Tree.{simple, continue, Code, done, item, SourceUnit, SourceProgram}
@@ -23,20 +24,21 @@ use Rattle.tree90.specs.Proper.{declared_name, is_among, are_distinct, IsWritabl
 use Rattle.project_set.specs.Rewrite.{remark_of, comments_from, remarks_at, written_list, written_unit, sizes_of, written}
 use Rattle.project_set.specs.Laws.{WrittenIsProper}
 use Rattle.project_set.proofs.ConversionLemmas.{UnitRead}
+use Rattle.project_set.proofs.NameLemmas.{any_first}
 use Rattle.project_set.proofs.Names.{distinct_first_seen}
 use Rattle.project_set.proofs.RefusalLemmas.{accepted}
-use Rattle.project_set.proofs.Seen.{all_implied, all_first, apart_from_all, are_distinct_names, all_are_seen}
+use Rattle.project_set.proofs.Seen.{all_implied, all_first, apart_from_all, are_distinct_names}
 use Rattle.project_set.proofs.ShortPieces.{is_short, short_nothing, short_append}
 use Rattle.project_set.proofs.ShortRemarks.{are_short_comments, are_writable, remarks_are_short, remarks_of_comments, remarks_at_are_short, comments_from_are_short, comments_are_short}
 use Rattle.project_set.proofs.ShortLineLemmas.{CardFound, ShortUnit, unit_is_short, unit_lines}
 
 -- ---- names
 
--- the names of what is written for a list are those of the list
-written_names : (cs : List Comment) (k : ℕ) (left : List Remark) (code : Code) → p.code_names (written_list cs k left code).0 ≡ source.code_names code
-written_names cs k left done = refl
-written_names cs k left (item label here (simple a) rest) = ap (λ names. action_names a ++ names) (written_names cs (k + 1) [] rest)
-written_names cs k left (item label here continue rest) = written_names cs (k + 1) _ rest
+-- what is written for a list is typed where the list is
+written_type : (kinds : List ℕ → Option Kind) (cs : List Comment) (k : ℕ) (left : List Remark) (code : Code) → p.is_typed_code kinds (written_list cs k left code).0 ≡ source.is_typed_code kinds code
+written_type kinds cs k left done = refl
+written_type kinds cs k left (item label here (simple a) rest) = ap (λ b. is_typed_action kinds a && b) (written_type kinds cs (k + 1) [] rest)
+written_type kinds cs k left (item label here continue rest) = written_type kinds cs (k + 1) _ rest
 
 -- declared objects have the names that they are made of
 declared_names : (xs : List (List ℕ)) → map declared_name (map integer_object xs) ≡ xs
@@ -46,23 +48,36 @@ declared_names (x ∷ xs) = ap (λ ys. x ∷ ys) (declared_names xs)
 -- a unit's name differs from its variables
 name_is_apart : (u : SourceUnit) → is_typed u ≡ true → not (is_among (variables u) u.name) ≡ true
 name_is_apart u typed =
-    apart_from_all u.name (variables u) (all_first (λ y. not (bytes_eq u.name y)) (source.code_names u.code)
-    (all_implied (is_variable u.name) (λ y. not (bytes_eq u.name y)) (λ y e. (and_parts (is_integer_name y) (not (bytes_eq u.name y)) e).1) (source.code_names u.code) typed))
+    apart_from_all u.name (variables u) (all_first (λ y. not (bytes_eq u.name y)) (source.code_variables u.code)
+    (all_implied (is_variable u.name) (λ y. not (bytes_eq u.name y)) (λ y e. (and_parts (is_integer_name y) (not (bytes_eq u.name y)) e).1) (source.code_variables u.code) (and_parts (list_all (is_variable u.name) (source.code_variables u.code)) _ typed).0))
 
 -- a unit's name and its variables are distinct
 names_are_distinct : (u : SourceUnit) → is_typed u ≡ true → are_distinct (u.name ∷ map declared_name (map integer_object (variables u))) ≡ true
 names_are_distinct u typed =
     ap (λ xs. are_distinct (u.name ∷ xs)) (declared_names (variables u))
     ∙ and_from (not (is_among (variables u) u.name)) (are_distinct (variables u)) (name_is_apart u typed)
-    (are_distinct_names (variables u) (distinct_first_seen (source.code_names u.code)))
+    (are_distinct_names (variables u) (distinct_first_seen (source.code_variables u.code)))
 
--- each name of what is written for a unit is declared
-names_are_declared : (cs : List Comment) (first : ℕ) (u : SourceUnit)
-    → list_all (is_among (map declared_name (map integer_object (variables u)))) (p.code_names (written_unit cs first u).code) ≡ true
-names_are_declared cs first u =
-    ap (λ xs. list_all (is_among xs) (p.code_names (written_unit cs first u).code)) (declared_names (variables u))
-    ∙ ap (list_all (is_among (variables u))) (written_names (comments_from cs (first + 2)) (first + 1) [] u.code)
-    ∙ all_are_seen (source.code_names u.code)
+-- the type of a declared name
+declared_kind : (xs : List (List ℕ)) (x : List ℕ) → p.kind_in (map integer_object xs) x ≡ (if list_any (bytes_eq x) xs then Some integers else None)
+declared_kind [] x = refl
+declared_kind (y ∷ ys) x = go (bytes_eq x y) (declared_kind ys x)
+  where
+    go : (b : Bool) → p.kind_in (map integer_object ys) x ≡ (if list_any (bytes_eq x) ys then Some integers else None)
+        → (if b then Some integers else p.kind_in (map integer_object ys) x) ≡ (if b || list_any (bytes_eq x) ys then Some integers else None)
+    go true rest = refl
+    go false rest = rest
+
+-- the declarations give each name the type that it has in the unit
+same_kinds : (u : SourceUnit) (x : List ℕ) → p.kind_in (map integer_object (variables u)) x ≡ source.kind_in u x
+same_kinds u x = declared_kind (variables u) x ∙ ap (λ b. if b then Some integers else None) (any_first x (source.code_variables u.code))
+
+-- what is written for a unit is typed
+unit_is_typed : (cs : List Comment) (first : ℕ) (u : SourceUnit) → is_typed u ≡ true → p.is_typed_code (p.kind_in (map integer_object (variables u))) (written_unit cs first u).code ≡ true
+unit_is_typed cs first u typed =
+    ap (λ kinds. p.is_typed_code kinds (written_unit cs first u).code) (λ i x. same_kinds u x i)
+    ∙ written_type (source.kind_in u) (comments_from cs (first + 2)) (first + 1) [] u.code
+    ∙ (and_parts (list_all (is_variable u.name) (source.code_variables u.code)) (source.is_typed_code (source.kind_in u) u.code) typed).1
 
 -- declared objects that are made of names have names
 declared_are_named : (xs : List (List ℕ)) → list_all is_name xs ≡ true → list_all (λ d. is_name (declared_name d)) (map integer_object xs) ≡ true
@@ -78,7 +93,7 @@ unit_is_writable cs first u short s =
       head = are_writable (remarks_at cs first) (remarks_at_are_short cs first short);
       named = s.named;
       inner = are_writable (remarks_at cs (first + 1)) (remarks_at_are_short cs (first + 1) short);
-      declared = declared_are_named (variables u) (all_first is_name (source.code_names u.code) s.names);
+      declared = declared_are_named (variables u) (all_first is_name (source.code_variables u.code) s.names);
       code = listed.writable;
       tail = are_writable (written_unit cs first u).tail listed.tail;
     }
@@ -106,7 +121,7 @@ program_is_proper cs u short s typed = record {
   whole = refl;
   writable = program_is_writable cs u short s;
   distinct = names_are_distinct u typed;
-  declared = names_are_declared cs 0 u;
+  typed = unit_is_typed cs 0 u typed;
 }
 
 -- what is written for a source that is converted is proper

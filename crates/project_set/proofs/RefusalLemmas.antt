@@ -12,11 +12,12 @@ use Rattle.text_base.specs.LineRefusals.{too_large, passes_sum, line_refusals, c
 use Rattle.text_base.specs.Trees.{Action}
 use Rattle.text_base.specs.declared.refusal.Place.{Place}
 use Rattle.text_base.specs.declared.refusal.Refusal.{Refusal}
-use Rattle.program77.specs.Tree.{SourceUnit}
+use Rattle.program77.specs.Tree as code
+use Rattle.program77.specs.Tree.{Code, done, item, simple, SourceUnit}
 use Rattle.program77.specs.Built.{Built, program, action, continue, end_of_unit}
-use Rattle.text_base.specs.Names.{action_names}
-use Rattle.program77.specs.Typing.{code_names, is_variable, is_typed}
-use Rattle.program77.specs.SourceReading.{ReadCard, read_card, read_of, file_statements, Ended, join_code, read_code, unit_with, read_unit}
+use Rattle.text_base.specs.Names.{action_variables}
+use Rattle.program77.specs.Typing.{code_variables, is_variable}
+use Rattle.program77.specs.SourceReading.{ReadCard, read_card, read_of, file_statements, Ended, join_code, read_code, unit_with, read_unit, typed_unit}
 use Rattle.program77.specs.SourceReading.{header_name}
 use Rattle.parse77.specs.Statement.{deck_refusals}
 use Rattle.project_set.specs.Refusals.{program_name, is_free_name, is_built_action, is_short, is_built_statement, is_built_as, is_built_card, not_built_at, unbuilt_refusals, unit_refusals, first_of, source_refusals, refusals}
@@ -58,12 +59,12 @@ pub record Accepted (bytes : List ℕ) : Type 0 where
   pub lines : card_refusals 0 bytes ≡ []
   pub statements : deck_refusals (cards 0 bytes) ≡ []
   pub built : unbuilt_refusals (cards 0 bytes) ≡ []
-  pub unit : unit_refusals 0 (read_unit (file_statements 0 bytes)) ≡ []
+  pub unit : unit_refusals 0 (option_and_then typed_unit (read_unit (file_statements 0 bytes))) ≡ []
 
 pub accepted : (bytes : List ℕ) → refusals bytes ≡ [] → Accepted bytes
 accepted bytes e =
-    let unit = unit_refusals 0 (read_unit (file_statements 0 bytes)) in
-    let first = first_nothing (files_refusals 0 0 (bytes ∷ [])) (source_refusals (cards 0 bytes) (read_unit (file_statements 0 bytes))) e in
+    let unit = unit_refusals 0 (option_and_then typed_unit (read_unit (file_statements 0 bytes))) in
+    let first = first_nothing (files_refusals 0 0 (bytes ∷ [])) (source_refusals (cards 0 bytes) (option_and_then typed_unit (read_unit (file_statements 0 bytes)))) e in
     let second = first_nothing (deck_refusals (cards 0 bytes)) (first_of (unbuilt_refusals (cards 0 bytes)) unit) first.1 in
     let third = first_nothing (unbuilt_refusals (cards 0 bytes)) unit second.1 in
     record { lines = sym (one_file bytes) ∙ first.0; statements = second.0; built = third.0; unit = third.1 }
@@ -88,61 +89,75 @@ all_built unit (card ∷ cs) e = go (is_built_card unit card) refl e (λ f. all_
 -- the parts of what can be converted of a statement
 pub record IsBuiltAction (unit : Option (List ℕ)) (a : Action) : Type 0 where
   pub built : is_built_action a ≡ true
-  pub free : list_all (is_free_name unit) (action_names a) ≡ true
+  pub free : list_all (is_free_name unit) (action_variables a) ≡ true
   pub short : is_short a ≡ true
 
 pub built_action : (unit : Option (List ℕ)) (a : Action) → is_built_statement unit (action a) ≡ true → IsBuiltAction unit a
 built_action unit a e =
-    let first = and_parts (is_built_action a) (list_all (is_free_name unit) (action_names a) && is_short a) e in
-    let second = and_parts (list_all (is_free_name unit) (action_names a)) (is_short a) first.1 in
+    let first = and_parts (is_built_action a) (list_all (is_free_name unit) (action_variables a) && is_short a) e in
+    let second = and_parts (list_all (is_free_name unit) (action_variables a)) (is_short a) first.1 in
     record { built = first.0; free = second.0; short = second.1 }
 
 -- ---- the program
 
--- the names of a list that is read are integer variables of the program
-abbrev IsTypedList : List ℕ → Option Ended → Type 0
-IsTypedList unit ended = IfSome ended (λ r. list_all (is_variable unit) (code_names r.0) ≡ true)
+-- all statements of a list can be converted
+abbrev pub are_built_actions : Code → Bool
+are_built_actions done = true
+are_built_actions (item label here (simple a) rest) = is_built_action a && are_built_actions rest
+are_built_actions (item label here code.continue rest) = are_built_actions rest
+
+-- the variables of a list are integer variables of a program, and its statements can be converted
+pub record AreBuilt (unit : List ℕ) (code : Code) : Type 0 where
+  pub variables : list_all (is_variable unit) (code_variables code) ≡ true
+  pub actions : are_built_actions code ≡ true
+
+abbrev IsBuiltList : List ℕ → Option Ended → Type 0
+IsBuiltList unit ended = IfSome ended (λ r. AreBuilt unit r.0)
 
 -- one statement more that can be converted
-typed_join : (unit : List ℕ) (here : Place) (s : Built) (rest : List ReadCard) (more : Option Ended)
-    → is_built_as (Some unit) (Some s) ≡ true → IsTypedList unit more → IsTypedList unit (join_code here s rest more)
-typed_join unit here (program x) rest more built typed = tt
-typed_join unit here (action a) rest None built typed = tt
-typed_join unit here (action a) rest (Some r) built typed =
-    list_all-append (is_variable unit) (action_names a) (code_names r.0) ∙ and_from _ _ (built_action (Some unit) a built).free typed
-typed_join unit here continue rest None built typed = tt
-typed_join unit here continue rest (Some r) built typed = typed
-typed_join unit here end_of_unit [] more built typed = refl
-typed_join unit here end_of_unit (next ∷ rest) more built typed = tt
+built_join : (unit : List ℕ) (here : Place) (s : Built) (rest : List ReadCard) (more : Option Ended)
+    → is_built_as (Some unit) (Some s) ≡ true → IsBuiltList unit more → IsBuiltList unit (join_code here s rest more)
+built_join unit here (program x) rest more built typed = tt
+built_join unit here (action a) rest None built typed = tt
+built_join unit here (action a) rest (Some r) built typed =
+    let b = built_action (Some unit) a built in
+    record {
+      variables = list_all-append (is_variable unit) (action_variables a) (code_variables r.0) ∙ and_from _ _ b.free typed.variables;
+      actions = and_from (is_built_action a) (are_built_actions r.0) b.built typed.actions;
+    }
+built_join unit here continue rest None built typed = tt
+built_join unit here continue rest (Some r) built typed = record { variables = typed.variables; actions = typed.actions }
+built_join unit here end_of_unit [] more built typed = record { variables = refl; actions = refl }
+built_join unit here end_of_unit (next ∷ rest) more built typed = tt
 
-list_is_typed : (unit : List ℕ) (cs : List Card) → list_all (is_built_card (Some unit)) cs ≡ true → IsTypedList unit (read_code (map read_of cs))
-list_is_typed unit [] built = tt
-list_is_typed unit (card ∷ rest) built =
+list_is_built : (unit : List ℕ) (cs : List Card) → list_all (is_built_card (Some unit)) cs ≡ true → IsBuiltList unit (read_code (map read_of cs))
+list_is_built unit [] built = tt
+list_is_built unit (card ∷ rest) built =
     let b = and_parts (is_built_card (Some unit) card) (list_all (is_built_card (Some unit)) rest) built in
-    go (read_card card) b.0 (list_is_typed unit rest b.1)
+    go (read_card card) b.0 (list_is_built unit rest b.1)
   where
-    go : (o : Option Built) → is_built_as (Some unit) o ≡ true → IsTypedList unit (read_code (map read_of rest))
-        → IsTypedList unit (option_and_then (λ s. join_code card.place s (map read_of rest) (read_code (map read_of rest))) o)
+    go : (o : Option Built) → is_built_as (Some unit) o ≡ true → IsBuiltList unit (read_code (map read_of rest))
+        → IsBuiltList unit (option_and_then (λ s. join_code card.place s (map read_of rest) (read_code (map read_of rest))) o)
     go None built typed = tt
-    go (Some s) built typed = typed_join unit card.place s (map read_of rest) (read_code (map read_of rest)) built typed
+    go (Some s) built typed = built_join unit card.place s (map read_of rest) (read_code (map read_of rest)) built typed
 
 -- the first statement of a program gives its name
-typed_unit_with : (here : Place) (rest : List Card) (o : Option Built) → list_all (is_built_card (option_and_then header_name o)) rest ≡ true
-    → IfSome (option_and_then (λ s. unit_with here s (read_code (map read_of rest))) o) (λ u. is_typed u ≡ true)
-typed_unit_with here rest None built = tt
-typed_unit_with here rest (Some (program x)) built = go (read_code (map read_of rest)) (list_is_typed x rest built)
+built_unit_with : (here : Place) (rest : List Card) (o : Option Built) → list_all (is_built_card (option_and_then header_name o)) rest ≡ true
+    → IfSome (option_and_then (λ s. unit_with here s (read_code (map read_of rest))) o) (λ u. AreBuilt u.name u.code)
+built_unit_with here rest None built = tt
+built_unit_with here rest (Some (program x)) built = go (read_code (map read_of rest)) (list_is_built x rest built)
   where
-    go : (ended : Option Ended) → IsTypedList x ended → IfSome (unit_with here (program x) ended) (λ u. is_typed u ≡ true)
+    go : (ended : Option Ended) → IsBuiltList x ended → IfSome (unit_with here (program x) ended) (λ u. AreBuilt u.name u.code)
     go None typed = tt
     go (Some r) typed = typed
-typed_unit_with here rest (Some (action a)) built = tt
-typed_unit_with here rest (Some continue) built = tt
-typed_unit_with here rest (Some end_of_unit) built = tt
+built_unit_with here rest (Some (action a)) built = tt
+built_unit_with here rest (Some continue) built = tt
+built_unit_with here rest (Some end_of_unit) built = tt
 
--- a program whose statements can all be converted has integer variables alone
-pub unit_is_typed : (cs : List Card) (u : SourceUnit) → unbuilt_refusals cs ≡ [] → read_unit (map read_of cs) ≡ Some u → is_typed u ≡ true
-unit_is_typed [] u built e = absurd cc
-unit_is_typed (card ∷ rest) u built e =
+-- a program whose statements can all be converted
+pub unit_is_built : (cs : List Card) (u : SourceUnit) → unbuilt_refusals cs ≡ [] → read_unit (map read_of cs) ≡ Some u → AreBuilt u.name u.code
+unit_is_built [] u built e = absurd cc
+unit_is_built (card ∷ rest) u built e =
     let name = program_name (map read_of (card ∷ rest)) in
     let b = and_parts (is_built_card name card) (list_all (is_built_card name) rest) (all_built name (card ∷ rest) built) in
-    subst (λ o. IfSome o (λ v. is_typed v ≡ true)) e (typed_unit_with card.place rest (read_card card) b.1)
+    subst (λ o. IfSome o (λ v. AreBuilt v.name v.code)) e (built_unit_with card.place rest (read_card card) b.1)

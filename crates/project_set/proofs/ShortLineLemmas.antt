@@ -12,8 +12,8 @@ use Rattle.text_base.specs.declared.refusal.Place.{Place}
 use Rattle.program77.specs.Built as built
 use Rattle.program77.specs.Built.{Built, program, action, end_of_unit}
 use Rattle.program77.specs.Tree.{simple, continue, Code, done, item, SourceUnit}
-use Rattle.text_base.specs.Names.{action_names}
-use Rattle.program77.specs.Typing.{code_names, variables}
+use Rattle.text_base.specs.Names.{action_variables}
+use Rattle.program77.specs.Typing.{code_variables, variables}
 use Rattle.program77.specs.Built.{SpellsBuilt}
 use Rattle.program77.specs.SourceReading.{ReadCard, read_card, read_of, Ended, join_code, read_code, unit_with, read_unit}
 use Rattle.tree90.specs.Tree as free
@@ -64,7 +64,7 @@ CardFound = (card : Card) (b : Built) → read_card card ≡ Some b → SpellsBu
 -- a list that is written in short lines, and refers to names alone
 pub record ShortCode (code : Code) : Type 0 where
   pub listed : IsShortCode code
-  pub names : list_all is_name (code_names code) ≡ true
+  pub names : list_all is_name (code_variables code) ≡ true
 
 abbrev ShortEnded : Option Ended → Type 0
 ShortEnded ended = IfSome ended (λ r. ShortCode r.0)
@@ -88,7 +88,7 @@ module _ (found : CardFound) (unit : Option (List ℕ)) where
       let plain = action_is_plain card a (found card (action a) was) parts.built in
       record {
         listed = λ cs k left short e. action_and_more (left ++ remarks_at cs k) a (written_list cs (k + 1) [] more) (left_and_here cs k left short e) parts.short plain (rest.listed cs (k + 1) [] short refl);
-        names = list_all-append is_name (action_names a) (code_names more) ∙ and_from _ _ plain.named rest.names;
+        names = list_all-append is_name (action_variables a) (code_variables more) ∙ and_from _ _ plain.named rest.names;
       }
 
   -- a statement that is read, before a list
@@ -132,7 +132,7 @@ declarations_are_short (x ∷ xs) e =
 -- a unit that has a name, refers to names alone, and whose statements are short
 pub record ShortUnit (u : SourceUnit) : Type 0 where
   pub named : is_name u.name ≡ true
-  pub names : list_all is_name (code_names u.code) ≡ true
+  pub names : list_all is_name (code_variables u.code) ≡ true
   pub listed : IsShortCode u.code
 
 -- the lines of what is written for such a unit are short
@@ -145,7 +145,7 @@ unit_lines cs first u short s =
     (remarks_are_short _ (remarks_at_are_short cs (first + 1) short)))
     (short_indented 2 (codes "IMPLICIT NONE") refl (omega arith)))
     (short_indented 2 (codes "SAVE") refl (omega arith)))
-    (declarations_are_short (variables u) (all_first is_name (code_names u.code) s.names)))
+    (declarations_are_short (variables u) (all_first is_name (code_variables u.code) s.names)))
     listed.printed_short)
     (remarks_are_short _ listed.tail))
     (word_and_name 0 (codes "END PROGRAM ") u.name refl (omega arith) s.named)

@@ -6,19 +6,19 @@ use Rattle.std.proofs.lemmas.Fmt.{decimal_by_steps}
 use Rattle.std.proofs.lemmas.List.Folds.{list_all-append}
 use Rattle.std.proofs.lemmas.Bool.{and_from, and_parts, leb-true}
 use Rattle.text_base.specs.Chars.{is_name}
-use Rattle.text_base.specs.Names.{expr_names, action_names}
+use Rattle.text_base.specs.Names.{expr_variables, exprs_variables, action_variables}
 use Rattle.text_base.specs.Cards.{Card}
-use Rattle.text_base.specs.Trees.{UnaryOp, plus, minus, negation, BinaryOp, Expr, int, bool, text, name, call, substring, unary, binary, paren, Action, assign, stop}
+use Rattle.text_base.specs.Trees.{UnaryOp, plus, minus, negation, BinaryOp, Expr, int, bool, text, name, call, substring, unary, binary, paren, Exprs, none, more, Action, assign, stop}
 use Rattle.text_base.specs.Trees as t
 use Rattle.text_base.specs.declared.limits.TheConstants.{GREATEST_INTEGER}
 use Rattle.program77.specs.Built.{SpellsBuilt, built_of, built_simple, action, program}
 use Rattle.tree77.specs.Statements as s
 use Rattle.tree77.specs.Statements.{Statement}
-use Rattle.tree90.specs.Printed.{sign_text, operator_text, expr_text, action_text}
-use Rattle.tree90.specs.Proper.{is_sign, is_additive, IsOperand, operand_int, operand_name, IsSum, only_operand, signed_operand, sum_of, IsWritableAction, writable_assign, writable_stop}
-use Rattle.project_set.specs.Refusals.{is_built_operand, is_built, is_built_action}
+use Rattle.tree90.specs.Printed.{sign_text, operator_text, expr_text, exprs_text, others_text, action_text}
+use Rattle.tree90.specs.Proper.{is_free, are_free, IsWritableAction, writable_assign, writable_stop}
+use Rattle.project_set.specs.Refusals.{is_sign, is_arithmetic, is_built, are_built, is_built_action}
 use Rattle.project_set.proofs.FormLemmas.{IsSound, statement_is_sound}
-use Rattle.project_set.proofs.OperandLemmas.{is_sound}
+use Rattle.project_set.proofs.OperandLemmas.{IsSoundExpr}
 use Rattle.project_set.proofs.ShortPieces.{has_no_feed, no_feed_append, no_feed_name}
 
 -- a number in decimal has no LF
@@ -64,78 +64,81 @@ no_feed_sum op s t e f =
 
 -- ---- expressions
 
--- an expression that can be written, whose text has no LF
+-- an expression whose text has no LF, and whose variables have names
 record PlainExpr (e : Expr) : Type 0 where
   plain : has_no_feed (expr_text e) ≡ true
-  named : list_all is_name (expr_names e) ≡ true
-  sum : IsSum e
+  named : list_all is_name (expr_variables e) ≡ true
 
--- an operand that can be written, whose text has no LF
-record PlainOperand (e : Expr) : Type 0 where
-  plain : has_no_feed (expr_text e) ≡ true
-  named : list_all is_name (expr_names e) ≡ true
-  operand : IsOperand e
+-- expressions with commas before them
+record PlainExprs (xs : Exprs) : Type 0 where
+  plain : has_no_feed (exprs_text xs) ≡ true
+  others : has_no_feed (others_text xs) ≡ true
+  named : list_all is_name (exprs_variables xs) ≡ true
 
-operand_is_plain : (e : Expr) → is_built_operand e ≡ true → is_sound e ≡ true → PlainOperand e
-operand_is_plain (int (pos v)) built sound =
-    let within = leb-true v GREATEST_INTEGER sound in
-    record { plain = no_feed_decimal v (omega (arith, within)); named = refl; operand = operand_int within }
-operand_is_plain (int (negsuc v)) built sound = absurd cc
-operand_is_plain (name x) built sound = record { plain = no_feed_name x sound; named = and_from (is_name x) true sound refl; operand = operand_name sound }
-operand_is_plain (bool b) built sound = absurd cc
-operand_is_plain (text cs) built sound = absurd cc
-operand_is_plain (call f xs) built sound = absurd cc
-operand_is_plain (substring a from to) built sound = absurd cc
-operand_is_plain (unary op a) built sound = absurd cc
-operand_is_plain (binary op a b) built sound = absurd cc
-operand_is_plain (paren a) built sound = absurd cc
+in_parentheses : (u : List ℕ) → has_no_feed u ≡ true → has_no_feed (codes "(" ++ u ++ codes ")") ≡ true
+in_parentheses u e = no_feed_append (codes "(" ++ u) (codes ")") (no_feed_append (codes "(") u refl e) refl
 
-only_one : (e : Expr) → is_built_operand e ≡ true → is_sound e ≡ true → PlainExpr e
-only_one e built sound = let o = operand_is_plain e built sound in record { plain = o.plain; named = o.named; sum = only_operand o.operand }
+-- what is converted can be written so
+mutual
+  expr_is_plain : (e : Expr) → is_built e ≡ true → is_free e ≡ true → PlainExpr e
+  expr_is_plain (int (pos v)) built free = let within = leb-true v GREATEST_INTEGER free in record { plain = no_feed_decimal v (omega (arith, within)); named = refl }
+  expr_is_plain (int (negsuc v)) built free = absurd cc
+  expr_is_plain (name x) built free = record { plain = no_feed_name x free; named = and_from (is_name x) true free refl }
+  expr_is_plain (call f xs) built free =
+      let b = and_parts (is_name f) (are_free xs) free in
+      let args = exprs_are_plain xs (and_parts _ (are_built xs) built).1 b.1 in
+      record {
+        plain = no_feed_append (f ++ codes "(" ++ exprs_text xs) (codes ")") (no_feed_append (f ++ codes "(") (exprs_text xs) (no_feed_append f (codes "(") (no_feed_name f b.0) refl) args.plain) refl;
+        named = args.named;
+      }
+  expr_is_plain (unary op a) built free =
+      let one = expr_is_plain a (and_parts (is_sign op) (is_built a) built).1 (and_parts _ (is_free a) free).1 in
+      record { plain = no_feed_append (sign_text op) (expr_text a) (no_feed_sign op) one.plain; named = one.named }
+  expr_is_plain (binary op a b) built free =
+      let parts = and_parts (is_built a) (is_built b) (and_parts (is_arithmetic op) (is_built a && is_built b) built).1 in
+      let right = and_parts _ (is_free b) free in
+      let l = expr_is_plain a parts.0 (and_parts _ (is_free a) right.0).1 in
+      let r = expr_is_plain b parts.1 right.1 in
+      record {
+        plain = no_feed_sum op (expr_text a) (expr_text b) l.plain r.plain;
+        named = list_all-append is_name (expr_variables a) (expr_variables b) ∙ and_from _ _ l.named r.named;
+      }
+  expr_is_plain (paren a) built free = let one = expr_is_plain a built free in record { plain = in_parentheses (expr_text a) one.plain; named = one.named }
+  expr_is_plain (bool b) built free = absurd cc
+  expr_is_plain (text cs) built free = absurd cc
+  expr_is_plain (substring a from to) built free = absurd cc
 
--- what is converted can be written where its operands can
-expr_is_plain : (e : Expr) → is_built e ≡ true → is_sound e ≡ true → PlainExpr e
-expr_is_plain (unary op a) built sound =
-    let b = and_parts (is_sign op) (is_built_operand a) built in
-    let o = operand_is_plain a b.1 sound in
-    record { plain = no_feed_append (sign_text op) (expr_text a) (no_feed_sign op) o.plain; named = o.named; sum = signed_operand b.0 o.operand }
-expr_is_plain (binary op a b) built sound =
-    let operator = and_parts (is_additive op) (is_built a && is_built_operand b) built in
-    let parts = and_parts (is_built a) (is_built_operand b) operator.1 in
-    let both = and_parts (is_sound a) (is_sound b) sound in
-    let l = expr_is_plain a parts.0 both.0 in
-    let r = operand_is_plain b parts.1 both.1 in
-    record {
-      plain = no_feed_sum op (expr_text a) (expr_text b) l.plain r.plain;
-      named = list_all-append is_name (expr_names a) (expr_names b) ∙ and_from _ _ l.named r.named;
-      sum = sum_of operator.0 l.sum r.operand;
-    }
-expr_is_plain (int v) built sound = only_one (int v) built sound
-expr_is_plain (name x) built sound = only_one (name x) built sound
-expr_is_plain (bool b) built sound = absurd cc
-expr_is_plain (text cs) built sound = absurd cc
-expr_is_plain (call f xs) built sound = absurd cc
-expr_is_plain (substring a from to) built sound = absurd cc
-expr_is_plain (paren a) built sound = absurd cc
+  exprs_are_plain : (xs : Exprs) → are_built xs ≡ true → are_free xs ≡ true → PlainExprs xs
+  exprs_are_plain none built free = record { plain = refl; others = refl; named = refl }
+  exprs_are_plain (more a rest) built free =
+      let b = and_parts (is_built a) (are_built rest) built in
+      let f = and_parts (is_free a) (are_free rest) free in
+      let one = expr_is_plain a b.0 f.0 in
+      let rests = exprs_are_plain rest b.1 f.1 in
+      record {
+        plain = no_feed_append (expr_text a) (others_text rest) one.plain rests.others;
+        others = no_feed_append (codes ", " ++ expr_text a) (others_text rest) (no_feed_append (codes ", ") (expr_text a) refl one.plain) rests.others;
+        named = list_all-append is_name (expr_variables a) (exprs_variables rest) ∙ and_from _ _ one.named rests.named;
+      }
 
 -- ---- statements
 
 -- a statement that can be written, whose text has no LF
 pub record PlainAction (a : Action) : Type 0 where
   pub plain : has_no_feed (action_text a) ≡ true
-  pub named : list_all is_name (action_names a) ≡ true
+  pub named : list_all is_name (action_variables a) ≡ true
   pub writable : IsWritableAction a
 
-assign_is_plain : (x : List ℕ) (e : Expr) → is_name x ≡ true → PlainExpr e → PlainAction (assign (name x) e)
-assign_is_plain x e named value = record {
+assign_is_plain : (x : List ℕ) (e : Expr) → is_name x ≡ true → is_free e ≡ true → PlainExpr e → PlainAction (assign (name x) e)
+assign_is_plain x e named free value = record {
   plain = no_feed_append (x ++ codes " = ") (expr_text e) (no_feed_append x (codes " = ") (no_feed_name x named) refl) value.plain;
-  named = and_from (is_name x) (list_all is_name (expr_names e)) named value.named;
-  writable = writable_assign named value.sum;
+  named = and_from (is_name x) (list_all is_name (expr_variables e)) named value.named;
+  writable = writable_assign named free;
 }
 
 -- an assignment that is sound and converted can be written
-assignment_is_plain : (d e : Expr) → is_built_action (assign d e) ≡ true → is_sound d ≡ true → is_sound e ≡ true → PlainAction (assign d e)
-assignment_is_plain (name x) e built left right = assign_is_plain x e left (expr_is_plain e built right)
+assignment_is_plain : (d e : Expr) → is_built_action (assign d e) ≡ true → IsSoundExpr d → IsSoundExpr e → PlainAction (assign d e)
+assignment_is_plain (name x) e built left right = assign_is_plain x e (left refl) (right built) (expr_is_plain e built (right built))
 assignment_is_plain _ e built left right = absurd cc
 
 -- a statement that is spelled and converted can be written
@@ -143,7 +146,7 @@ pub action_is_plain : (card : Card) (a : Action) → SpellsBuilt card (action a)
 action_is_plain card a b built = go b.statement b.built (statement_is_sound card.label b.spelled.pieces b.statement [] b.spelled.spelled)
   where
     -- an assignment to a name
-    assigned : (d x : Expr) → built_simple (s.assign d x) ≡ Some (action a) → is_sound d ≡ true → is_sound x ≡ true → PlainAction a
+    assigned : (d x : Expr) → built_simple (s.assign d x) ≡ Some (action a) → IsSoundExpr d → IsSoundExpr x → PlainAction a
     assigned (name v) x e left right =
         let same : assign (name v) x ≡ a = cc in
         subst PlainAction same (assignment_is_plain (name v) x (subst (λ b. is_built_action b ≡ true) (sym same) built) left right)

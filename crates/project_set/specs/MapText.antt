@@ -2,7 +2,8 @@
 use Rattle.std.specs.Prelude.{ℕ, List, [], ◌++◌, codes, decimal, map, flat_map, slice_get, Option, unwrap_or}
 use Rattle.std.specs.Option.{option_map}
 use Rattle.program77.specs.Tree.{SourceUnit, SourceProgram}
-use Rattle.program77.specs.Layout.{Kind, integers, logicals, characters, Home, local, Sequence, Layout, variables_from}
+use Rattle.text_base.specs.Values.{Kind, integers, logicals, characters}
+use Rattle.program77.specs.Layout.{Home, local, Sequence, Layout, variables_from}
 
 -- A line: places of a sequence, from the first on, seen with a kind, stand in an object of a written unit,
 -- from a place on that is counted from 1.

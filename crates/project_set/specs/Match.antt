@@ -1,10 +1,10 @@
 -- When the storage of the source and the objects of the written program hold the same, by a map.
 use Rattle.std.specs.Prelude.{◌≡◌, ℕ, ℤ, ◌+◌, ◌-◌, ◌<◌, ◌≤◌, ◌&&◌, Bool, not, nat_lt, List, Contains, slice_get, Option, Some, None, if◌then◌else◌}
 use Rattle.std.specs.Option.{option_and_then}
-use Rattle.text_base.specs.Values.{Held, holds_integer, holds_logical}
+use Rattle.text_base.specs.Values.{Held, holds_integer, holds_logical, Kind, integers, logicals, characters}
 use Rattle.text_base.specs.Runs.{Final, going, ended, fault}
 use Rattle.program77.specs.Tree.{SourceProgram}
-use Rattle.program77.specs.Layout.{Kind, integers, logicals, characters, Sequence, Entity, Layout, layout_of, numeric_place, text_place}
+use Rattle.program77.specs.Layout.{Sequence, Entity, Layout, layout_of, numeric_place, text_place}
 use Rattle.program77.specs.Meaning.{Store, run77}
 use Rattle.tree90.specs.Tree.{Declared, integer_object, FreeProgram}
 use Rattle.tree90.specs.Proper.{declared_name}

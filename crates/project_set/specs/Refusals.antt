@@ -1,13 +1,17 @@
 -- What is refused of a file.
-use Rattle.std.specs.Prelude.{ℕ, ◌+◌, Bool, true, false, not, ◌&&◌, nat_le, List, [], ◌∷◌, length, take, map, filter, Option, Some, None}
+use Rattle.std.specs.Prelude.{ℕ, suc, ◌+◌, Bool, true, false, not, ◌&&◌, nat_le, List, [], ◌∷◌, length, replicate, take, map, filter, Option, Some, None}
 use Rattle.std.specs.List.{list_all}
 use Rattle.std.specs.Option.{option_and_then}
 use Rattle.text_base.specs.Cards.{Card, cards}
 use Rattle.text_base.specs.Kept.{read_characters}
 use Rattle.text_base.specs.LineRefusals.{files_refusals}
-use Rattle.text_base.specs.Names.{action_names}
+use Rattle.text_base.specs.ExpressionKinds.{are_same}
+use Rattle.text_base.specs.Names.{expr_variables, action_variables}
+use Rattle.text_base.specs.Operations.{outcome_kind}
+use Rattle.text_base.specs.Operators.{unary_op, binary_op, intrinsic}
 use Rattle.text_base.specs.Refusing.{not_built}
-use Rattle.text_base.specs.Trees.{Expr, int, name, unary, binary, Action, assign, stop}
+use Rattle.text_base.specs.Trees.{UnaryOp, BinaryOp, Expr, int, bool, text, name, call, substring, unary, binary, paren, Exprs, none, more, Action, assign, stop}
+use Rattle.text_base.specs.Values.{integers}
 use Rattle.text_base.specs.declared.limits.TheConstants.{LONGEST_WRITTEN, MOST_SHOWN}
 use Rattle.text_base.specs.declared.refusal.Refusal.{Refusal}
 use Rattle.text_base.specs.declared.refusal.Cause.TheVariants.{NotBuilt}
@@ -15,11 +19,10 @@ use Rattle.program77.specs.Tree.{SourceUnit}
 use Rattle.program77.specs.Built.{Built, program, action, continue, end_of_unit}
 use Rattle.program77.specs.Typing.{is_integer_name, is_variable}
 use Rattle.program77.specs.SourceReading.{header_name}
-use Rattle.program77.specs.SourceReading.{ReadCard, read_card, file_statements, read_of, read_unit}
+use Rattle.program77.specs.SourceReading.{ReadCard, read_card, file_statements, read_of, read_unit, typed_unit}
 use Rattle.parse77.specs.Statement.{deck_refusals}
 use Rattle.tree90.specs.Tree.{simple}
 use Rattle.tree90.specs.Printed.{stmt_text}
-use Rattle.tree90.specs.Proper.{is_sign, is_additive}
 
 -- ---- one statement
 
@@ -33,18 +36,43 @@ abbrev pub is_free_name : Option (List ℕ) → List ℕ → Bool
 is_free_name None x = is_integer_name x
 is_free_name (Some unit) x = is_variable unit x
 
--- a constant or a name
-abbrev pub is_built_operand : Expr → Bool
-is_built_operand (int v) = true
-is_built_operand (name x) = true
-is_built_operand _ = false
+-- an intrinsic function that gives an integer, of so many integers
+abbrev pub is_integer_function : List ℕ → ℕ → Bool
+is_integer_function f count = are_same (option_and_then (λ o. outcome_kind o (replicate count integers)) (intrinsic f)) (Some integers)
 
--- the expressions that are converted: constants and names with + and - between them, grouped from the left, and a sign at
--- most before the first
-abbrev pub is_built : Expr → Bool
-is_built (unary op a) = is_sign op && is_built_operand a
-is_built (binary op a b) = is_additive op && (is_built a && is_built_operand b)
-is_built e = is_built_operand e
+-- an operator that gives an integer, of integers
+abbrev pub is_sign : UnaryOp → Bool
+is_sign op = are_same (outcome_kind (unary_op op) (integers ∷ [])) (Some integers)
+
+abbrev pub is_arithmetic : BinaryOp → Bool
+is_arithmetic op = are_same (outcome_kind (binary_op op) (integers ∷ integers ∷ [])) (Some integers)
+
+-- how many expressions a list has
+abbrev pub exprs_count : Exprs → ℕ
+exprs_count none = 0
+exprs_count (more a rest) = suc (exprs_count rest)
+
+-- The expressions that are converted: integer constants and names, operators and intrinsic functions that give integers of
+-- integers, and parentheses.
+abbrev mutual
+  pub is_built : Expr → Bool
+  is_built (int v) = true
+  is_built (name x) = true
+  is_built (call f xs) = is_integer_function f (exprs_count xs) && are_built xs
+  is_built (unary op a) = is_sign op && is_built a
+  is_built (binary op a b) = is_arithmetic op && (is_built a && is_built b)
+  is_built (paren a) = is_built a
+  is_built (bool b) = false
+  is_built (text t) = false
+  is_built (substring a from to) = false
+
+  pub are_built : Exprs → Bool
+  are_built none = true
+  are_built (more a rest) = is_built a && are_built rest
+
+-- an expression that is converted, whose variables pass a test
+abbrev pub is_free : (List ℕ → Bool) → Expr → Bool
+is_free test e = is_built e && list_all test (expr_variables e)
 
 -- what is assigned to is a variable, and the expression is converted
 abbrev pub is_built_action : Action → Bool
@@ -56,10 +84,10 @@ is_built_action stop = true
 abbrev pub is_short : Action → Bool
 is_short a = nat_le (length (stmt_text 1 (simple a))) (LONGEST_WRITTEN + 1)
 
--- what can be converted: the expression of a statement is such a one, its names are those of integer variables, and its line fits
+-- what can be converted: the expression of a statement is such a one, its variables may be integer variables, and its line fits
 abbrev pub is_built_statement : Option (List ℕ) → Built → Bool
 is_built_statement unit (program x) = true
-is_built_statement unit (action a) = is_built_action a && (list_all (is_free_name unit) (action_names a) && is_short a)
+is_built_statement unit (action a) = is_built_action a && (list_all (is_free_name unit) (action_variables a) && is_short a)
 is_built_statement unit continue = true
 is_built_statement unit end_of_unit = true
 
@@ -81,7 +109,7 @@ not_built_at card = record { place = card.place; cause = NotBuilt; name = take M
 abbrev pub unbuilt_refusals : List Card → List Refusal
 unbuilt_refusals cards = map not_built_at (filter (λ card. not (is_built_card (program_name (map read_of cards)) card)) cards)
 
--- the refusal of a file whose statements aren't one main program
+-- the refusal of a file whose statements aren't one main program, each part of which has the type that its place needs
 abbrev pub unit_refusals : ℕ → Option SourceUnit → List Refusal
 unit_refusals file None = not_built file ∷ []
 unit_refusals file (Some unit) = []
@@ -98,4 +126,4 @@ source_refusals cards unit = first_of (deck_refusals cards) (first_of (unbuilt_r
 
 -- What is refused of a file: of its size and its lines; and where there is nothing, of its statements.
 abbrev pub refusals : List ℕ → List Refusal
-refusals bytes = first_of (files_refusals 0 0 (bytes ∷ [])) (source_refusals (cards 0 bytes) (read_unit (file_statements 0 bytes)))
+refusals bytes = first_of (files_refusals 0 0 (bytes ∷ [])) (source_refusals (cards 0 bytes) (option_and_then typed_unit (read_unit (file_statements 0 bytes))))

@@ -1,12 +1,12 @@
 -- The skeleton of a unit: what it does, in the order of the text, without the names of its variables.
 use Rattle.std.specs.Prelude.{ℕ, ℤ, Bool, List, [], ◌∷◌, ◌++◌, map}
-use Rattle.text_base.specs.Trees.{UnaryOp, BinaryOp, Expr, int, bool, text, name, call, substring, unary, binary, paren, Action, assign, stop}
+use Rattle.text_base.specs.Trees.{UnaryOp, BinaryOp, Expr, int, bool, text, name, call, substring, unary, binary, paren, Exprs, none, more, Action, assign, stop}
 use Rattle.program77.specs.Tree as source
 use Rattle.program77.specs.Tree.{SourceUnit, SourceProgram}
 use Rattle.tree90.specs.Tree as free
 use Rattle.tree90.specs.Tree.{FreeUnit, FreeProgram}
 
--- what a skeleton shows of an expression: a variable is a leaf
+-- what a skeleton shows of an expression: a variable is a leaf, a function has its name
 pub data Mark : Type 0 where
   leaf : Mark
   integer : ℤ → Mark
@@ -14,20 +14,27 @@ pub data Mark : Type 0 where
   characters : List ℕ → Mark
   sign : UnaryOp → Mark
   operator : BinaryOp → Mark
+  function : List ℕ → Mark
   opening : Mark
   closing : Mark
 
--- the constants, the operators and the parentheses of an expression, in order; a designator is a leaf without its subscripts
-abbrev pub marks : Expr → List Mark
-marks (int v) = integer v ∷ []
-marks (bool b) = logical b ∷ []
-marks (text t) = characters t ∷ []
-marks (name x) = leaf ∷ []
-marks (call x subscripts) = leaf ∷ []
-marks (substring a from to) = leaf ∷ []
-marks (unary op a) = sign op ∷ marks a
-marks (binary op a b) = marks a ++ operator op ∷ marks b
-marks (paren a) = opening ∷ (marks a ++ closing ∷ [])
+-- the constants, the operators, the functions and the parentheses of an expression, in order; a substring is a leaf without its
+-- bounds
+abbrev mutual
+  pub marks : Expr → List Mark
+  marks (int v) = integer v ∷ []
+  marks (bool b) = logical b ∷ []
+  marks (text t) = characters t ∷ []
+  marks (name x) = leaf ∷ []
+  marks (call f xs) = function f ∷ opening ∷ (marks_of xs ++ closing ∷ [])
+  marks (substring a from to) = leaf ∷ []
+  marks (unary op a) = sign op ∷ marks a
+  marks (binary op a b) = marks a ++ operator op ∷ marks b
+  marks (paren a) = opening ∷ (marks a ++ closing ∷ [])
+
+  pub marks_of : Exprs → List Mark
+  marks_of none = []
+  marks_of (more a rest) = marks a ++ marks_of rest
 
 -- an entry of a skeleton
 pub data Entry : Type 0 where

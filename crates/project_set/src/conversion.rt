@@ -5,6 +5,7 @@ ghost use Rattle.text_base.specs.Lines.{cut_lines};
 ghost use Rattle.text_base.specs.LineRefusals.{card_refusals};
 ghost use Rattle.card_reader.specs.Deck.{card_of, deck_comments};
 ghost use Rattle.program77.specs.Plain.{source_of};
+ghost use Rattle.program77.specs.Typing.{variables};
 ghost use Rattle.parse77.specs.Statement.{file_readings};
 ghost use Rattle.order77.specs.ReadViews.{readings_of};
 ghost use Rattle.project_set.specs.Comments.{ArePlaced};
@@ -28,8 +29,9 @@ use free_printer::print;
 use order77::ReadStatement;
 use parse77::{ParseError, files_are_units, read_accepted};
 use program77::{main_program, sources_are_read, unit_name};
+use sqlite_items::Items;
 use std::alloc::{AllocError, Global};
-use text_base::{Bytes, Refusals, not_built};
+use text_base::{Bytes, Name, Refusals, not_built};
 use thiserror::Error;
 use unit77::{Unit77, nest_units};
 
@@ -131,10 +133,11 @@ fn read_parts(alloc: Global, bytes: &[u8]) -> Result<Parts, ConvertError>
     })
 }
 
-/// A program of one unit, with the comments of its file, and how many lines of it are cut off at column 72.
+/// A program of one unit and its variables, with the comments of its file, and how many lines of it are cut off at column 72.
 #[derive(Drop)]
 struct Source {
     unit: Unit77,
+    variables: Items<Name>,
     comments: Comments,
     cut: u32,
 }
@@ -143,6 +146,7 @@ struct Source {
 // lines, of the statements and their units, of those that aren't converted yet, and of the statements as one main program.
 fn read_source(alloc: Global, bytes: &[u8]) -> Result<Source, ConvertError>
     ensures found { IfOk result (λ s. IsConvertible bytes.now (record { units = source_of s.unit ∷ [] })) }
+    ensures named { IfOk result (λ s. s.variables ≡ variables (source_of s.unit)) }
     ensures counted { IfOk result (λ s. length s.comments.before ≡ length s.unit.items + 1) }
     ensures comments { IfOk result (λ s. ArePlaced (comments bytes.now) (length s.comments.before) s.comments) }
     ensures cut { IfOk result (λ s. s.cut ≡ cut_lines bytes.now) }
@@ -155,8 +159,12 @@ fn read_source(alloc: Global, bytes: &[u8]) -> Result<Source, ConvertError>
     let Some(unit) = main_program(units) else {
         return Err(ConvertError::Refused(not_built(alloc, 0)?));
     };
+    let Some(variables) = variables(alloc, &unit)? else {
+        return Err(ConvertError::Refused(not_built(alloc, 0)?));
+    };
     Ok(Source {
         unit,
+        variables,
         comments: parts.comments,
         cut: parts.cut,
     })
@@ -164,17 +172,18 @@ fn read_source(alloc: Global, bytes: &[u8]) -> Result<Source, ConvertError>
 
 // The texts of a program. Its expressions are moved to the written program.
 fn written_texts(alloc: Global, source: Source) -> Result<Outputs, AllocError>
-    requires { length source.comments.before ≡ length source.unit.items + 1 }
+    requires counted { length source.comments.before ≡ length source.unit.items + 1 }
+    requires named { source.variables ≡ variables (source_of source.unit) }
     ensures text { IfOk result (λ o. (cs : List Comment) → ArePlaced cs (length source.comments.before) source.comments → o.text ≡ printed (written cs (record { units = source_of source.unit ∷ [] }))) }
     ensures map { IfOk result (λ o. o.map ≡ program_map (record { units = source_of source.unit ∷ [] })) }
     ensures report { IfOk result (λ o. o.report ≡ report_text (record { units = 1; webs = 0; kept = 0; arrays = 0; cut = source.cut })) }
 {
     let Source {
         unit,
+        variables,
         comments,
         cut,
     } = source;
-    let variables = variables(alloc, &unit)?;
     let map = map_of(alloc, &unit_name(&unit), variables.as_slice())?;
     let program = rewritten(alloc, unit, variables.as_slice(), comments)?;
     Ok(Outputs {

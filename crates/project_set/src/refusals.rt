@@ -2,7 +2,6 @@
 ghost use Rattle.std.specs.Prelude.{ℕ, ◌≡◌, ◌&&◌, ◌∷◌, ◌++◌, [], map, IfOk, OnOk};
 ghost use Rattle.std.specs.List.{list_all};
 ghost use Rattle.std.specs.Option.{option_and_then};
-ghost use Rattle.text_base.specs.Names.{expr_names};
 ghost use Rattle.text_base.specs.Trees.{assign, name};
 ghost use Rattle.card_reader.specs.Deck.{card_of};
 ghost use Rattle.expr_tree.specs.Plain.{expr_of, unary_of, binary_of};
@@ -12,8 +11,7 @@ ghost use Rattle.tree77.specs.Statements as s;
 ghost use Rattle.program77.specs.Typing.{is_integer_name, is_variable};
 ghost use Rattle.order77.specs.ReadViews.{reading_at, readings_of};
 ghost use Rattle.program77.specs.SourceReading.{header_name, read_of, reading_card};
-ghost use Rattle.tree90.specs.Proper.{is_sign, is_additive};
-ghost use Rattle.project_set.specs.Refusals.{program_name, is_free_name, is_built_operand, is_built, is_built_statement, is_built_as, not_built_at, unbuilt_refusals};
+ghost use Rattle.project_set.specs.Refusals.{program_name, is_free_name, is_free, is_sign, is_arithmetic, is_integer_function, is_built_statement, is_built_as, not_built_at, unbuilt_refusals};
 
 use card_reader::Card;
 use free_printer::is_short_assignment;
@@ -23,6 +21,7 @@ use sqlite_items::Items;
 use std::alloc::{AllocError, Global};
 use text_base::{Cause, Name, Refusal, Refusals};
 use tree77::{BinaryOp, Expr, Header77, Statement77, Stmt77, UnaryOp};
+use value_ops::{gives_integer, intrinsic};
 
 // The name that a header gives to a program, if it is a PROGRAM statement.
 fn header_program(header: &Header77) -> Option<Name>
@@ -94,6 +93,7 @@ fn is_free_name(unit: &Option<Name>, name: &Name) -> bool
     }
 }
 
+// Whether the operator gives an integer, of an integer.
 fn is_sign(op: UnaryOp) -> bool
     ensures { result ≡ is_sign (unary_of op) }
 {
@@ -104,53 +104,64 @@ fn is_sign(op: UnaryOp) -> bool
     }
 }
 
-fn is_additive(op: BinaryOp) -> bool
-    ensures { result ≡ is_additive (binary_of op) }
+// Whether the operator gives an integer, of integers.
+fn is_arithmetic(op: BinaryOp) -> bool
+    ensures { result ≡ is_arithmetic (binary_of op) }
 {
     match op {
+        BinaryOp::Power => true,
+        BinaryOp::Times => true,
+        BinaryOp::Over => true,
         BinaryOp::Plus => true,
         BinaryOp::Minus => true,
         _ => false,
     }
 }
 
-// Whether the expression is a constant, or a name that a variable may have.
-#[tactic(auto, using(expr_tree::proofs::Equations::expr_equations))]
-fn is_free_operand(unit: &Option<Name>, expr: &Expr) -> bool
-    ensures { result ≡ (is_built_operand (expr_of expr.now) && list_all (is_free_name unit.now) (expr_names (expr_of expr.now))) }
+// Whether the name is that of an intrinsic function that gives an integer, of so many integers.
+fn is_integer_function(name: &Name, count: usize) -> bool
+    ensures { result ≡ is_integer_function name.now count }
 {
-    match expr {
-        Expr::Int(_) => true,
-        Expr::Name(name) => is_free_name(unit, name),
-        Expr::Bool(_) => false,
-        Expr::Text(_) => false,
-        Expr::Call(_, _) => false,
-        Expr::Substring(_, _, _) => false,
-        Expr::Unary(_, _) => false,
-        Expr::Binary(_, _, _) => false,
-        Expr::Paren(_) => false,
+    match intrinsic(name.as_slice()) {
+        Some(op) => gives_integer(op, count),
+        None => false,
     }
 }
 
-// Whether the expression can be converted, and variables may have its names.
-#[tactic(auto, using(expr_tree::proofs::Equations::expr_equations, crate::proofs::FreeLemmas::free_binary))]
-fn is_free_sum(unit: &Option<Name>, expr: &Expr) -> bool
-    ensures { result ≡ (is_built (expr_of expr.now) && list_all (is_free_name unit.now) (expr_names (expr_of expr.now))) }
+// Whether the expression can be converted, and its variables may be integer variables.
+#[cycle(free)]
+#[tactic(auto, using(expr_tree::proofs::Equations::expr_equations, crate::proofs::FreeLemmas::free_parts))]
+fn is_free_expr(unit: &Option<Name>, expr: &Expr) -> bool
+    ensures { result ≡ is_free (is_free_name unit.now) (expr_of expr.now) }
 {
     match expr {
         Expr::Int(_) => true,
         Expr::Name(name) => is_free_name(unit, name),
-        Expr::Unary(op, operand) => is_sign(*op) && is_free_operand(unit, operand.get()),
-        Expr::Binary(op, left, right) => {
-            is_additive(*op)
-                && (is_free_sum(unit, left.get()) && is_free_operand(unit, right.get()))
+        Expr::Call(function, arguments) => {
+            is_integer_function(function, arguments.len()) && are_free(unit, arguments.as_slice())
         }
+        Expr::Unary(op, operand) => is_sign(*op) && is_free_expr(unit, operand.get()),
+        Expr::Binary(op, left, right) => {
+            is_arithmetic(*op)
+                && (is_free_expr(unit, left.get()) && is_free_expr(unit, right.get()))
+        }
+        Expr::Paren(inner) => is_free_expr(unit, inner.get()),
         Expr::Bool(_) => false,
         Expr::Text(_) => false,
-        Expr::Call(_, _) => false,
         Expr::Substring(_, _, _) => false,
-        Expr::Paren(_) => false,
     }
+}
+
+#[cycle(free)]
+fn are_free(unit: &Option<Name>, exprs: &[Expr]) -> bool
+    ensures { result ≡ list_all (λ x. is_free (is_free_name unit.now) (expr_of x)) exprs.now }
+{
+    for expr in exprs {
+        if !is_free_expr(unit, expr) {
+            return false;
+        }
+    }
+    true
 }
 
 // Whether the line that is written for the assignment is short enough is asked last, since it takes longest.
@@ -159,7 +170,7 @@ fn is_variable_built(unit: &Option<Name>, variable: &Name, value: &Expr) -> bool
     ensures { result ≡ is_built_statement unit.now (action (assign (name variable.now) (expr_of value.now))) }
 {
     is_free_name(unit, variable)
-        && is_free_sum(unit, value)
+        && is_free_expr(unit, value)
         && is_short_assignment(&Expr::Name(variable.copy()), value, 1)
 }
 

@@ -16,6 +16,8 @@ pub mod Remarks
 pub mod Names
 pub mod Values
 pub mod Operations
+pub mod Operators
+pub mod ExpressionKinds
 pub mod Runs
 pub mod Evaluation
 pub mod Formats

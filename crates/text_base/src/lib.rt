@@ -1,5 +1,5 @@
 //! What every crate stands on: bytes, names, places, comments, causes of refusal, limits, and the outside, which is a shelf of
-//! named files and a sink of text; the definitions of lines, cards, kept text, pieces, plain trees, values and evaluation.
+//! named files and a sink of text; the definitions of lines, cards, kept text, pieces, plain trees, values, operations and evaluation.
 #![tactic(auto)]
 
 mod bytes;
@@ -10,6 +10,7 @@ pub mod limits;
 mod memory_shelf;
 mod memory_sink;
 mod name;
+mod operation;
 mod refusal;
 mod remarks;
 mod shelf;
@@ -22,6 +23,7 @@ pub use format::{FormatEdit, FormatItem, FormatItems};
 pub use memory_shelf::MemoryShelf;
 pub use memory_sink::MemorySink;
 pub use name::Name;
+pub use operation::{Op, RunFault, Value};
 pub use refusal::{Cause, Place, Refusal, Refusals, not_built};
 pub use remarks::Remarks;
 pub use shelf::{Shelf, ShelfRead, ShelfWrite};

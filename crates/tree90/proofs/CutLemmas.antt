@@ -8,9 +8,10 @@ use Rattle.text_base.specs.Chars.{is_name_byte}
 use Rattle.text_base.proofs.CharTests.{all_append}
 use Rattle.text_base.proofs.RemarkLines.{cut_line}
 use Rattle.text_base.specs.declared.limits.TheConstants.{MOST_INDENTED}
-use Rattle.tree90.specs.FreeText.{tokens, FreeLine, comment_line, statement_line, starts_comment, free_line_of, comment_lines}
+use Rattle.tree90.specs.FreeTokens.{tokens}
+use Rattle.tree90.specs.FreeText.{FreeLine, comment_line, statement_line, starts_comment, free_line_of, comment_lines}
 use Rattle.tree90.specs.Printed.{line}
-use Rattle.tree90.proofs.TokenLemmas.{has_no_break, name_byte}
+use Rattle.tree90.proofs.TokenLemmas.{has_no_break, apart}
 
 -- the lines of a text
 abbrev pub lines_of : List ℕ → List FreeLine
@@ -31,13 +32,13 @@ tokens_after_blanks (suc n) text = tokens_after_blanks n text
 -- an indented word is no comment
 no_comment : (n : ℕ) (text : List ℕ) → begins_word text ≡ true → starts_comment (replicate n 32 ++ text) ≡ false
 no_comment zero [] e = absurd cc
-no_comment zero (c ∷ text) e = (name_byte c e).unmarked
+no_comment zero (c ∷ text) e = apart c 33 e refl
 no_comment (suc n) text e = refl
 
 -- an indented word isn't blank
 no_blank : (n : ℕ) (text : List ℕ) → begins_word text ≡ true → is_blank (replicate n 32 ++ text) ≡ false
 no_blank zero [] e = absurd cc
-no_blank zero (c ∷ text) e = ap (λ b. b && is_blank text) (name_byte c e).unblank
+no_blank zero (c ∷ text) e = ap (λ b. b && is_blank text) (apart c 32 e refl)
 no_blank (suc n) text e = no_blank n text e
 
 -- an indented word begins a statement

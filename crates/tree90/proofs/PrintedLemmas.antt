@@ -1,18 +1,19 @@
 -- The text of a program that can be written is read as that program.
-use Rattle.std.proofs.Common.{◌≡◌, ℕ, true, not, ◌==◌, List, [], ◌∷◌, ◌++◌, map, codes, refl, sym, ap, ◌∙◌, subst, append_assoc, arith}
+use Rattle.std.proofs.Common.{◌≡◌, ℕ, suc, true, List, [], ◌∷◌, ◌++◌, map, codes, refl, sym, ap, ◌∙◌, subst, append_assoc, arith}
 use Rattle.std.specs.Prelude.{flat_map}
 use Rattle.std.specs.List.{list_all}
 use Rattle.std.proofs.lemmas.List.{append-nil}
 use Rattle.std.proofs.lemmas.Bool.{and_parts}
 use Rattle.text_base.specs.Chars.{is_name_byte, is_name}
 use Rattle.text_base.specs.Trees.{Expr, Action, name, assign}
-use Rattle.text_base.proofs.CharTests.{all_append}
 use Rattle.text_base.specs.Remarks.{Remark, remarks_text, are_writable_remarks}
 use Rattle.tree90.specs.Tree.{simple, Code, done, item, Declared, integer_object, FreeUnit, FreeProgram}
-use Rattle.tree90.specs.FreeText.{tokens, FreeStatement, header, implicit_none, save, declaration, executable, end, SpellsFree, free_header, free_implicit, free_save, free_integer, free_assign, free_stop, free_end, FreeLine, comment_lines, SpellsNext, SpellsParts, SpellsCode, SpellsUnit, SpellsUnits, SpellsText}
+use Rattle.tree90.specs.FreeTokens.{Token, plain, tokens}
+use Rattle.tree90.specs.FreeText.{FreeStatement, header, implicit_none, save, declaration, executable, end, SpellsFree, free_header, free_implicit, free_save, free_integer, free_assign, free_stop, free_end, FreeLine, comment_lines, SpellsNext, SpellsParts, SpellsCode, SpellsUnit, SpellsUnits, SpellsText}
 use Rattle.tree90.specs.Printed.{line, expr_text, action_text, code_text, declared_text, unit_text, printed}
 use Rattle.tree90.specs.Proper.{IsWritableAction, writable_assign, writable_stop, IsWritableCode, declared_name, IsWritableUnit, AreWritableUnits, IsWritable}
-use Rattle.tree90.proofs.TokenLemmas.{has_no_break, name_bytes_unbroken, NameWord, name_word, name_token, word_token, SumTokens, sum_tokens}
+use Rattle.tree90.proofs.TokenLemmas.{has_no_break, name_bytes_unbroken, NameWord, name_word, name_token, Reads, Any, join, word_mark}
+use Rattle.tree90.proofs.WrittenExpressions.{Written, inner, written}
 use Rattle.tree90.proofs.CutLemmas.{lines_of, begins_word, line_step, comments_step}
 
 -- ---- statements
@@ -32,7 +33,7 @@ header_text : (x : List ℕ) → is_name x ≡ true → LineText (codes "PROGRAM
 header_text x named = record {
   unbroken = name_unbroken x named;
   begins = refl;
-  spelled = free_header (ap (λ (ts : List (List ℕ)). codes "PROGRAM" ∷ ts) (name_token x named)) named refl;
+  spelled = free_header (ap (λ (ts : List Token). plain (codes "PROGRAM") ∷ ts) (name_token x named)) named refl;
 }
 
 -- the first fixed line
@@ -48,7 +49,7 @@ integer_text : (x : List ℕ) → is_name x ≡ true → LineText (codes "INTEGE
 integer_text x named = record {
   unbroken = name_unbroken x named;
   begins = refl;
-  spelled = free_integer (ap (λ (ts : List (List ℕ)). codes "INTEGER" ∷ codes "::" ∷ ts) (name_token x named)) named refl;
+  spelled = free_integer (ap (λ (ts : List Token). plain (codes "INTEGER") ∷ plain (codes "::") ∷ ts) (name_token x named)) named refl;
 }
 
 -- the END line
@@ -56,30 +57,40 @@ end_text : (x : List ℕ) → is_name x ≡ true → LineText (codes "END PROGRA
 end_text x named = record {
   unbroken = name_unbroken x named;
   begins = refl;
-  spelled = free_end (ap (λ (ts : List (List ℕ)). codes "END" ∷ codes "PROGRAM" ∷ ts) (name_token x named)) named refl;
+  spelled = free_end (ap (λ (ts : List Token). plain (codes "END") ∷ plain (codes "PROGRAM") ∷ ts) (name_token x named)) named refl;
 }
 
 -- a name begins a word
-name_begins : (x rest : List ℕ) → NameWord x → begins_word (x ++ rest) ≡ true
-name_begins [] rest w = absurd (omega (arith, w.some))
-name_begins (c ∷ x) rest w = (and_parts (is_name_byte c) (list_all is_name_byte x) w.bytes).0
+word_begins : (x : List ℕ) → NameWord x → begins_word x ≡ true
+word_begins [] w = absurd (omega (arith, w.some))
+word_begins (c ∷ x) w = (and_parts (is_name_byte c) (list_all is_name_byte x) w.bytes).0
+
+-- and what follows it changes nothing
+begun_word : (x y : List ℕ) → begins_word x ≡ true → begins_word (x ++ y) ≡ true
+begun_word [] y e = absurd cc
+begun_word (c ∷ x) y e = e
+
+-- the equals sign of an assignment
+equals_mark : Reads Any (codes " = ") (plain (codes "=") ∷ [])
+equals_mark = record { unbroken = refl; read = λ rest q. refl }
 
 -- an assignment
-assign_text : (x : List ℕ) (e : Expr) → is_name x ≡ true → SumTokens e → LineText (x ++ (codes " = " ++ expr_text e)) (executable (simple (assign (name x) e)))
-assign_text x e named sum =
-    let w = name_word x named in
-    let behind : List ℕ = codes " = " ++ expr_text e in
-    let value : tokens (expr_text e) ≡ sum.list = ap tokens (sym (append-nil (expr_text e))) ∙ sum.read [] tt ∙ append-nil sum.list in
+assign_text : (x : List ℕ) (e : Expr) → is_name x ≡ true → Written e → LineText (x ++ codes " = " ++ expr_text e) (executable (simple (assign (name x) e)))
+assign_text x e named w =
+    let word = name_word x named in
+    let text : List ℕ = x ++ codes " = " ++ expr_text e in
+    let shown = join (join (word_mark x word) equals_mark (λ rest q. refl)) w.shown (λ rest q. tt) in
+    let whole : tokens text ≡ plain x ∷ plain (codes "=") ∷ w.list =
+    ap tokens (sym (append-nil text)) ∙ shown.read [] refl ∙ append-nil (plain x ∷ plain (codes "=") ∷ w.list) in
     record {
-      unbroken = all_append (λ c. not (c == 10)) x behind (name_unbroken x named) sum.unbroken;
-      begins = name_begins x behind w;
-      spelled = free_assign (word_token x behind w.bytes w.some refl ∙ ap (λ (ts : List (List ℕ)). x ∷ codes "=" ∷ ts) value) named sum.spelled refl;
+      unbroken = shown.unbroken;
+      begins = begun_word (x ++ codes " = ") (expr_text e) (begun_word x (codes " = ") (word_begins x word));
+      spelled = free_assign whole named (suc w.depth, inner e w (suc w.depth) (omega arith)) refl;
     }
 
 -- an executable statement
 action_line : (a : Action) → IsWritableAction a → LineText (action_text a) (executable (simple a))
-action_line a (writable_assign {x} {e} named sum) =
-    subst (λ t. LineText t (executable (simple (assign (name x) e)))) (sym (append_assoc x (codes " = ") (expr_text e))) (assign_text x e named (sum_tokens e sum))
+action_line a (writable_assign {x} {e} named free) = assign_text x e named (written e free)
 action_line a writable_stop = record { unbroken = refl; begins = refl; spelled = free_stop refl refl }
 
 -- ---- statements after comments

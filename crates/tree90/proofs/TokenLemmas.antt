@@ -1,20 +1,17 @@
--- The tokens of names, constants and sums.
-use Rattle.std.proofs.Common.{◌≡◌, ℕ, ◌-◌, ◌<◌, ◌≤◌, ◌==◌, Bool, true, false, not, ◌&&◌, ◌||◌, List, [], ◌∷◌, ◌++◌, length, refl, sym, ap, ◌∙◌, arith, append_assoc}
-use Rattle.std.specs.Prelude.{nat_le, slice_index, if◌then◌else◌}
+-- The tokens of names, constants, operators and marks.
+use Rattle.std.proofs.Common.{◌≡◌, ◌⊎◌, inl, inr, ℕ, ◌-◌, ◌<◌, ◌==◌, Bool, true, false, not, ◌&&◌, ◌||◌, List, [], ◌∷◌, ◌++◌, length, codes, refl, sym, ap, ◌∙◌, arith, append_assoc}
+use Rattle.std.specs.Prelude.{nat_le, if◌then◌else◌}
 use Rattle.std.specs.List.{list_all}
-use Rattle.std.specs.Fmt.{decimal}
 use Rattle.std.specs.Str.Parse.{AllDigits}
-use Rattle.std.proofs.lemmas.Bool.{eqb-true, leb-true, le-leb, lt-leb, ne_eqb, and_from, and_parts}
-use Rattle.std.proofs.lemmas.Fmt.{decimal_is_IsNumeral}
+use Rattle.std.proofs.lemmas.Bool.{leb-true, eqb-true, ne_eqb, lt-leb, le-leb, not-true, or_cases, both_ways, and_from, and_parts}
 use Rattle.std.proofs.lemmas.List.{append-nil}
 use Rattle.std.proofs.lemmas.Str.Parse.{digit_from_value}
 use Rattle.text_base.specs.Chars.{is_upper, is_digit, is_name_byte, is_name, to_upper}
-use Rattle.tree90.specs.Constants.{SpellsOperand, spells_constant, spells_variable, IsSign, is_plus, is_minus, IsOperator, is_add, is_subtract}
-use Rattle.text_base.specs.Trees.{UnaryOp, plus, minus, negation, BinaryOp, power, times, over, add, subtract, concat, less, less_equal, equal, not_equal, greater, greater_equal, conjunction, disjunction, equivalence, nonequivalence, Expr, unary, binary}
-use Rattle.text_base.proofs.CharTests.{all_append, digits_are_name_bytes}
-use Rattle.tree90.specs.FreeText.{is_word_byte, joins, attach, tokens, SpellsSum, sum_operand, sum_signed, sum_more}
-use Rattle.tree90.specs.Printed.{sign_text, operator_text, expr_text}
-use Rattle.tree90.specs.Proper.{IsOperand, operand_int, operand_name, is_sign, is_additive, IsSum, only_operand, signed_operand, sum_of}
+use Rattle.text_base.proofs.CharTests.{all_append}
+use Rattle.text_base.specs.Trees.{UnaryOp, plus, minus, negation, BinaryOp, power}
+use Rattle.tree90.specs.FreeTokens.{Token, plain, quoted, is_word_byte, is_pair, joins, within, doubling, attach, begins_quote, tokens_from, tokens}
+use Rattle.tree90.specs.FreeExpressions.{operator, prefix}
+use Rattle.tree90.specs.Printed.{sign_text, operator_text, doubled}
 
 -- ---- tests
 
@@ -22,116 +19,80 @@ use Rattle.tree90.specs.Proper.{IsOperand, operand_int, operand_name, is_sign, i
 abbrev pub has_no_break : List ℕ → Bool
 has_no_break = list_all (λ c. not (c == 10))
 
+-- a text that goes on with no word and no apostrophe
+abbrev pub ends : List ℕ → Bool
+ends [] = true
+ends (c ∷ t) = not (is_word_byte c) && not (c == 39)
+
 -- ---- bytes of words
 
--- from the digit 0 to the underscore, and no colon
-record InRange (c : ℕ) : Type 0 where
-  low : 48 ≤ c
-  high : c ≤ 95
-  colon : c ≡ 58 → ⊥
+-- a byte of names isn't one that no name has
+pub apart : (c k : ℕ) → is_name_byte c ≡ true → is_name_byte k ≡ false → (c == k) ≡ false
+apart c k e f = ne_eqb c k (λ is. both_ways (is_name_byte k) f (ap is_name_byte (sym is) ∙ e))
 
--- where the bytes of names lie
-in_range : (c : ℕ) → is_name_byte c ≡ true → InRange c
-in_range c e = go (is_upper c) (is_digit c) (c == 95) refl refl refl e
+-- bytes of names lie below the lower-case letters
+below_lower : (c : ℕ) → is_name_byte c ≡ true → c < 97
+below_lower c e = go (or_cases _ _ e)
   where
-    go : (u d l : Bool) → is_upper c ≡ u → is_digit c ≡ d → (c == 95) ≡ l → (u || d || l) ≡ true → InRange c
-    go true d l upper digit line e =
-        let parts = and_parts (nat_le 65 c) (nat_le c 90) upper in
-        let low = leb-true 65 c parts.0 in
-        let high = leb-true c 90 parts.1 in
-        record { low = omega (arith, low); high = omega (arith, high); colon = λ is. omega (arith, low, is) }
-    go false true l upper digit line e =
-        let parts = and_parts (nat_le 48 c) (nat_le c 57) digit in
-        let low = leb-true 48 c parts.0 in
-        let high = leb-true c 57 parts.1 in
-        record { low = omega (arith, low); high = omega (arith, high); colon = λ is. omega (arith, high, is) }
-    go false false true upper digit line e =
-        let same = eqb-true c 95 line in
-        record { low = omega (arith, same); high = omega (arith, same); colon = λ is. omega (arith, same, is) }
-    go false false false upper digit line e = absurd cc
+    upper_or_digit : (is_upper c ≡ true) ⊎ (is_digit c ≡ true) → c < 97
+    upper_or_digit (inl u) = omega (arith, leb-true c 90 (and_parts _ _ u).1)
+    upper_or_digit (inr d) = omega (arith, leb-true c 57 (and_parts _ _ d).1)
 
--- a byte that isn't LF, a blank, `!` or a colon, is read as it stands and belongs to a word
-pub record NameByte (c : ℕ) : Type 0 where
-  pub unbroken : not (c == 10) ≡ true
-  pub unblank : (c == 32) ≡ false
-  pub unmarked : (c == 33) ≡ false
-  pub colonless : (c == 58) ≡ false
-  pub same : to_upper c ≡ c
-  pub word : is_word_byte c ≡ true
+    go : ((is_upper c || is_digit c) ≡ true) ⊎ ((c == 95) ≡ true) → c < 97
+    go (inl other) = upper_or_digit (or_cases _ _ other)
+    go (inr line) = omega (arith, eqb-true c 95 line)
 
--- what bytes of names are not, and that they are read as they stand
-pub name_byte : (c : ℕ) → is_name_byte c ≡ true → NameByte c
-name_byte c e =
-    let r = in_range c e in
-    let low = r.low in
-    let high = r.high in
-    let same : to_upper c ≡ c = ap (λ b. if b && nat_le c 122 then c - 32 else c) (lt-leb 97 c (omega (arith, high))) in
-    record {
-      unbroken = ap not (ne_eqb c 10 (λ is. omega (arith, low, is)));
-      unblank = ne_eqb c 32 (λ is. omega (arith, low, is));
-      unmarked = ne_eqb c 33 (λ is. omega (arith, low, is));
-      colonless = ne_eqb c 58 r.colon;
-      same = same;
-      word = ap (λ x. is_upper x || is_digit c || c == 95) same ∙ e;
-    }
+-- they are read as they stand
+same : (c : ℕ) → is_name_byte c ≡ true → to_upper c ≡ c
+same c e = ap (λ b. if b && nat_le c 122 then c - 32 else c) (lt-leb 97 c (below_lower c e))
+
+-- and belong to words
+word_byte : (c : ℕ) → is_name_byte c ≡ true → is_word_byte c ≡ true
+word_byte c e = ap (λ x. is_upper x || is_digit c || c == 95) (same c e) ∙ e
+
+-- and to no operator or mark
+no_pair : (c d : ℕ) → is_name_byte c ≡ true → is_pair c d ≡ false
+no_pair c d e = simp (apart c 42 e refl, apart c 47 e refl, apart c 61 e refl, apart c 60 e refl, apart c 62 e refl, apart c 58 e refl)
 
 -- names have no LF
 pub name_bytes_unbroken : (w : List ℕ) → list_all is_name_byte w ≡ true → has_no_break w ≡ true
 name_bytes_unbroken [] e = refl
 name_bytes_unbroken (c ∷ w) e =
     let parts = and_parts (is_name_byte c) (list_all is_name_byte w) e in
-    and_from (not (c == 10)) (has_no_break w) (name_byte c parts.0).unbroken (name_bytes_unbroken w parts.1)
+    and_from (not (c == 10)) (has_no_break w) (ap not (apart c 10 parts.0 refl)) (name_bytes_unbroken w parts.1)
 
 -- ---- words
 
--- a text that goes on with no word
-abbrev pub Ends : List ℕ → Type 0
-Ends [] = Unit {0}
-Ends (d ∷ t) = is_word_byte d ≡ false
+-- a byte of names is joined to the next by the table alone
+byte_step : (c : ℕ) (t : List ℕ) → is_name_byte c ≡ true → tokens (c ∷ t) ≡ (if joins false c t then attach c (tokens t) else plain (c ∷ []) ∷ tokens t)
+byte_step c t e = simp (apart c 32 e refl, apart c 39 e refl, apart c 46 e refl, same c e)
 
--- a character that is a token by itself
-token_ends : (c : ℕ) (t : List ℕ) → NameByte c → joins c t ≡ false → tokens (c ∷ t) ≡ (c ∷ []) ∷ tokens t
-token_ends c t n apart =
-    ap (λ b. if b then tokens t else (if joins c t then attach (to_upper c) (tokens t) else (to_upper c ∷ []) ∷ tokens t)) n.unblank
-    ∙ ap (λ b. if b then attach (to_upper c) (tokens t) else (to_upper c ∷ []) ∷ tokens t) apart
-    ∙ ap (λ d. (d ∷ []) ∷ tokens t) n.same
+-- a byte of a word before no word
+byte_ends : (c : ℕ) (rest : List ℕ) → is_name_byte c ≡ true → ends rest ≡ true → joins false c rest ≡ false
+byte_ends c [] e stop = refl
+byte_ends c (d ∷ rest) e stop =
+    let apart_next = not-true (is_word_byte d) (and_parts _ _ stop).0 in
+    simp (word_byte c e, apart_next, apart c 46 e refl, no_pair c d e)
 
--- a character that is of one token with the next
-token_goes_on : (c : ℕ) (t : List ℕ) → NameByte c → joins c t ≡ true → tokens (c ∷ t) ≡ attach c (tokens t)
-token_goes_on c t n joined =
-    ap (λ b. if b then tokens t else (if joins c t then attach (to_upper c) (tokens t) else (to_upper c ∷ []) ∷ tokens t)) n.unblank
-    ∙ ap (λ b. if b then attach (to_upper c) (tokens t) else (to_upper c ∷ []) ∷ tokens t) joined
-    ∙ ap (λ d. attach d (tokens t)) n.same
-
--- a character of a word before no word
-joins_not : (c : ℕ) (rest : List ℕ) → NameByte c → Ends rest → joins c rest ≡ false
-joins_not c [] n ends = refl
-joins_not c (d ∷ rest) n ends =
-    ap (λ b. (b && is_word_byte d) || (c == 58 && d == 58)) n.word
-    ∙ ap (λ b. b || (c == 58 && d == 58)) ends
-    ∙ ap (λ b. b && d == 58) n.colonless
-
--- two characters of a word
-joins_so : (c d : ℕ) (t : List ℕ) → NameByte c → NameByte d → joins c (d ∷ t) ≡ true
-joins_so c d t n m =
-    ap (λ b. (b && is_word_byte d) || (c == 58 && d == 58)) n.word
-    ∙ ap (λ b. b || (c == 58 && d == 58)) m.word
+-- two bytes of a word
+byte_goes_on : (c d : ℕ) (t : List ℕ) → is_name_byte c ≡ true → is_name_byte d ≡ true → joins false c (d ∷ t) ≡ true
+byte_goes_on c d t e f = simp (word_byte c e, word_byte d f)
 
 -- a word is a token
-pub word_token : (w rest : List ℕ) → list_all is_name_byte w ≡ true → 0 < length w → Ends rest → tokens (w ++ rest) ≡ w ∷ tokens rest
-word_token [] rest bytes some ends = absurd (omega arith)
-word_token (c ∷ []) rest bytes some ends =
-    let n = name_byte c (and_parts (is_name_byte c) (list_all is_name_byte []) bytes).0 in
-    token_ends c rest n (joins_not c rest n ends)
-word_token (c ∷ d ∷ w) rest bytes some ends =
+pub word_token : (w rest : List ℕ) → list_all is_name_byte w ≡ true → 0 < length w → ends rest ≡ true → tokens (w ++ rest) ≡ plain w ∷ tokens rest
+word_token [] rest bytes some stop = absurd (omega arith)
+word_token (c ∷ []) rest bytes some stop =
+    let e = (and_parts (is_name_byte c) (list_all is_name_byte []) bytes).0 in
+    byte_step c rest e ∙ ap (λ b. if b then attach c (tokens rest) else plain (c ∷ []) ∷ tokens rest) (byte_ends c rest e stop)
+word_token (c ∷ d ∷ w) rest bytes some stop =
     let first = and_parts (is_name_byte c) (list_all is_name_byte (d ∷ w)) bytes in
     let second = and_parts (is_name_byte d) (list_all is_name_byte w) first.1 in
-    let n = name_byte c first.0 in
-    let m = name_byte d second.0 in
-    token_goes_on c (d ∷ (w ++ rest)) n (joins_so c d (w ++ rest) n m)
-    ∙ ap (attach c) (word_token (d ∷ w) rest first.1 (omega arith) ends)
+    let t = d ∷ (w ++ rest) in
+    byte_step c t first.0
+    ∙ ap (λ b. if b then attach c (tokens t) else plain (c ∷ []) ∷ tokens t) (byte_goes_on c d (w ++ rest) first.0 second.0)
+    ∙ ap (attach c) (word_token (d ∷ w) rest first.1 (omega arith) stop)
 
--- ---- names
+-- ---- names and digits
 
 -- one byte of names or more
 pub record NameWord (x : List ℕ) : Type 0 where
@@ -140,160 +101,131 @@ pub record NameWord (x : List ℕ) : Type 0 where
 
 -- a name is a word
 pub name_word : (x : List ℕ) → is_name x ≡ true → NameWord x
-name_word x named = record {
-  bytes = (and_parts (list_all is_name_byte x) (nat_le (length x) 31) (and_parts (is_upper (slice_index x 0)) (list_all is_name_byte x && nat_le (length x) 31) named).1).0;
-  some = not_empty x named;
-}
+name_word x named = record { bytes = (and_parts _ _ (and_parts _ _ named).1).0; some = not_empty x named }
   where
     not_empty : (x : List ℕ) → is_name x ≡ true → 0 < length x
     not_empty [] named = absurd cc
     not_empty (c ∷ x) named = omega arith
 
 -- a name by itself is one token
-pub name_token : (x : List ℕ) → is_name x ≡ true → tokens x ≡ x ∷ []
+pub name_token : (x : List ℕ) → is_name x ≡ true → tokens x ≡ plain x ∷ []
 name_token x named =
     let w = name_word x named in
-    ap tokens (sym (append-nil x)) ∙ word_token x [] w.bytes w.some tt
-
--- ---- operands
+    ap tokens (sym (append-nil x)) ∙ word_token x [] w.bytes w.some refl
 
 -- digits by their values are digits
-digits_are : (ds : List ℕ) → AllDigits 10 ds → list_all is_digit ds ≡ true
+pub digits_are : (ds : List ℕ) → AllDigits 10 ds → list_all is_digit ds ≡ true
 digits_are [] d = refl
 digits_are (c ∷ ds) d =
     let range = digit_from_value c d.0 in
     and_from (is_digit c) (list_all is_digit ds) (and_from (nat_le 48 c) (nat_le c 57) (le-leb 48 c range.0) (le-leb c 57 range.1)) (digits_are ds d.1)
 
--- the text of an operand is a word that spells it
-record OperandWord (e : Expr) : Type 0 where
-  word : NameWord (expr_text e)
-  spelled : SpellsOperand (expr_text e) e
+-- ---- character constants
 
--- an operand is written as one word that spells it
-operand_word : (e : Expr) → IsOperand e → OperandWord e
-operand_word e (operand_int {v} within) =
-    let numeral = decimal_is_IsNumeral v (omega (arith, within)) in
-    let digits = digits_are (decimal v) numeral.0.1 in
-    record {
-      word = record { bytes = digits_are_name_bytes (decimal v) digits; some = numeral.0.0 };
-      spelled = spells_constant (record { some = numeral.0.0; digits = digits; is = sym numeral.1; within = within }) refl;
-    }
-operand_word e (operand_name {x} named) = record { word = name_word x named; spelled = spells_variable named refl }
+-- a text that goes on with no apostrophe
+no_quote : (rest : List ℕ) → ends rest ≡ true → begins_quote rest ≡ false
+no_quote [] stop = refl
+no_quote (c ∷ rest) stop = not-true (c == 39) (and_parts _ _ stop).1
 
--- ---- sums
-
--- The tokens of an expression, that they spell it, and that they stand first in each text that it begins.
-pub record SumTokens (e : Expr) : Type 0 where
-  pub list : List (List ℕ)
-  pub spelled : SpellsSum list e
-  pub unbroken : has_no_break (expr_text e) ≡ true
-  pub read : (rest : List ℕ) → Ends rest → tokens (expr_text e ++ rest) ≡ list ++ tokens rest
-
--- the byte of a sign
-record SignByte (op : UnaryOp) : Type 0 where
-  byte : ℕ
-  is : IsSign byte op
-  text : sign_text op ≡ byte ∷ []
-  unbroken : not (byte == 10) ≡ true
-  read : (rest : List ℕ) → tokens (byte ∷ rest) ≡ (byte ∷ []) ∷ tokens rest
-
--- a plus is a token
-plus_token : (rest : List ℕ) → tokens (43 ∷ rest) ≡ (43 ∷ []) ∷ tokens rest
-plus_token [] = refl
-plus_token (d ∷ rest) = refl
-
--- a minus is a token
-minus_token : (rest : List ℕ) → tokens (45 ∷ rest) ≡ (45 ∷ []) ∷ tokens rest
-minus_token [] = refl
-minus_token (d ∷ rest) = refl
-
--- a sign is one token
-sign_byte : (op : UnaryOp) → is_sign op ≡ true → SignByte op
-sign_byte plus e = record { byte = 43; is = is_plus refl; text = refl; unbroken = refl; read = plus_token }
-sign_byte minus e = record { byte = 45; is = is_minus refl; text = refl; unbroken = refl; read = minus_token }
-sign_byte negation e = absurd cc
-
--- the byte of an operator
-record OperatorByte (op : BinaryOp) : Type 0 where
-  byte : ℕ
-  is : IsOperator byte op
-  text : operator_text op ≡ byte ∷ []
-  unbroken : not (byte == 10) ≡ true
-  read : (rest : List ℕ) → tokens (byte ∷ rest) ≡ (byte ∷ []) ∷ tokens rest
-
--- an operator of sums is one token
-operator_byte : (op : BinaryOp) → is_additive op ≡ true → OperatorByte op
-operator_byte add e = record { byte = 43; is = is_add refl; text = refl; unbroken = refl; read = plus_token }
-operator_byte subtract e = record { byte = 45; is = is_subtract refl; text = refl; unbroken = refl; read = minus_token }
-operator_byte power e = absurd cc
-operator_byte times e = absurd cc
-operator_byte over e = absurd cc
-operator_byte concat e = absurd cc
-operator_byte less e = absurd cc
-operator_byte less_equal e = absurd cc
-operator_byte equal e = absurd cc
-operator_byte not_equal e = absurd cc
-operator_byte greater e = absurd cc
-operator_byte greater_equal e = absurd cc
-operator_byte conjunction e = absurd cc
-operator_byte disjunction e = absurd cc
-operator_byte equivalence e = absurd cc
-operator_byte nonequivalence e = absurd cc
-
--- the tokens of an operand
-operand_tokens : (e : Expr) → IsOperand e → SumTokens e
-operand_tokens e operand =
-    let o = operand_word e operand in
-    record {
-      list = expr_text e ∷ [];
-      spelled = sum_operand refl o.spelled;
-      unbroken = name_bytes_unbroken (expr_text e) o.word.bytes;
-      read = λ rest ends. word_token (expr_text e) rest o.word.bytes o.word.some ends;
-    }
-
--- the tokens of a signed operand
-signed_tokens : (op : UnaryOp) (a : Expr) → is_sign op ≡ true → IsOperand a → SumTokens (unary op a)
-signed_tokens op a sign operand =
-    let o = operand_word a operand in
-    let s = sign_byte op sign in
-    record {
-      list = (s.byte ∷ []) ∷ expr_text a ∷ [];
-      spelled = sum_signed refl s.is o.spelled refl;
-      unbroken = ap (λ t. has_no_break (t ++ expr_text a)) s.text ∙ and_from (not (s.byte == 10)) (has_no_break (expr_text a)) s.unbroken (name_bytes_unbroken (expr_text a) o.word.bytes);
-      read = λ rest ends.
-          ap (λ t. tokens ((t ++ expr_text a) ++ rest)) s.text
-          ∙ s.read (expr_text a ++ rest)
-          ∙ ap (λ ts. (s.byte ∷ []) ∷ ts) (word_token (expr_text a) rest o.word.bytes o.word.some ends);
-    }
-
--- the tokens of an operand after a sum
-more_tokens : (op : BinaryOp) (a b : Expr) → is_additive op ≡ true → SumTokens a → IsOperand b → SumTokens (binary op a b)
-more_tokens op a b additive left operand =
-    let o = operand_word b operand in
-    let q = operator_byte op additive in
-    let behind : List ℕ = 32 ∷ q.byte ∷ 32 ∷ expr_text b in
-    let whole : expr_text (binary op a b) ≡ expr_text a ++ behind =
-    between (expr_text a) (operator_text op) (expr_text b) ∙ ap (λ (t : List ℕ). expr_text a ++ (32 ∷ (t ++ (32 ∷ expr_text b)))) q.text in
-    let unbroken = and_from (not (q.byte == 10)) (has_no_break (expr_text b)) q.unbroken (name_bytes_unbroken (expr_text b) o.word.bytes) in
-    record {
-      list = left.list ++ (q.byte ∷ []) ∷ expr_text b ∷ [];
-      spelled = sum_more refl q.is left.spelled o.spelled refl;
-      unbroken = ap has_no_break whole ∙ all_append (λ c. not (c == 10)) (expr_text a) behind left.unbroken unbroken;
-      read = λ rest ends.
-          ap (λ t. tokens (t ++ rest)) whole
-          ∙ ap tokens (append_assoc (expr_text a) behind rest)
-          ∙ left.read (behind ++ rest) refl
-          ∙ ap (λ ts. left.list ++ ts) (q.read (32 ∷ (expr_text b ++ rest)))
-          ∙ ap (λ ts. left.list ++ (q.byte ∷ []) ∷ ts) (word_token (expr_text b) rest o.word.bytes o.word.some ends)
-          ∙ sym (append_assoc left.list ((q.byte ∷ []) ∷ expr_text b ∷ []) (tokens rest));
-    }
+-- the rest of a character constant, up to its end
+quoted_rest : (cs rest : List ℕ) → ends rest ≡ true → tokens_from within (doubled cs ++ 39 ∷ rest) ≡ quoted cs ∷ tokens rest
+quoted_rest [] rest stop = ap (λ b. if b then attach 39 (tokens_from doubling rest) else quoted [] ∷ tokens rest) (no_quote rest stop)
+quoted_rest (c ∷ cs) rest stop =
+    ap (tokens_from within) (append_assoc (if c == 39 then 39 ∷ 39 ∷ [] else c ∷ []) (doubled cs) (39 ∷ rest))
+    ∙ go (c == 39) refl
+    ∙ ap (attach c) (quoted_rest cs rest stop)
   where
-    -- an operator between blanks, and what follows it
-    between : (x o y : List ℕ) → (((x ++ (32 ∷ [])) ++ o) ++ (32 ∷ [])) ++ y ≡ x ++ (32 ∷ (o ++ (32 ∷ y)))
-    between x o y = simp append_assoc
+    t : List ℕ
+    t = doubled cs ++ 39 ∷ rest
 
--- the tokens of a sum
-pub sum_tokens : (e : Expr) → IsSum e → SumTokens e
-sum_tokens e (only_operand operand) = operand_tokens e operand
-sum_tokens e (signed_operand {op} {a} sign operand) = signed_tokens op a sign operand
-sum_tokens e (sum_of {op} {a} {b} additive left operand) = more_tokens op a b additive (sum_tokens a left) operand
+    go : (b : Bool) → (c == 39) ≡ b → tokens_from within ((if b then 39 ∷ 39 ∷ [] else c ∷ []) ++ t) ≡ attach c (tokens_from within t)
+    go true is = ap (λ d. attach d (tokens_from within t)) (sym (eqb-true c 39 is))
+    go false is = ap (λ b. if b then (if begins_quote t then attach 39 (tokens_from doubling t) else quoted [] ∷ tokens t) else attach c (tokens_from within t)) is
+
+-- a character constant is a token
+pub quoted_token : (cs rest : List ℕ) → ends rest ≡ true → tokens (((39 ∷ []) ++ doubled cs ++ 39 ∷ []) ++ rest) ≡ quoted cs ∷ tokens rest
+quoted_token cs rest stop = ap (tokens_from within) (append_assoc (doubled cs) (39 ∷ []) rest) ∙ quoted_rest cs rest stop
+
+-- ---- texts that are read as some tokens
+
+-- The text has no LF, and in front of what is so it is read as these tokens.
+pub record Reads (P : List ℕ → Type 0) (text : List ℕ) (ts : List Token) : Type 0 where
+  pub unbroken : has_no_break text ≡ true
+  pub read : (rest : List ℕ) → P rest → tokens (text ++ rest) ≡ ts ++ tokens rest
+
+-- in front of anything
+abbrev pub Any : List ℕ → Type 0
+Any rest = Unit {0}
+
+-- in front of what ends a word, and begins no apostrophe
+abbrev pub Ends : List ℕ → Type 0
+Ends rest = ends rest ≡ true
+
+-- in front of a blank
+abbrev pub BeforeBlank : List ℕ → Type 0
+BeforeBlank rest = (t : List ℕ) × (rest ≡ 32 ∷ t)
+
+-- a text that begins with a colon, and one that doesn't
+abbrev pub begins_colon : List ℕ → Bool
+begins_colon [] = false
+begins_colon (c ∷ t) = c == 58
+
+abbrev pub BeforeNoColon : List ℕ → Type 0
+BeforeNoColon rest = begins_colon rest ≡ false
+
+-- one text after another
+pub join : {P Q : List ℕ → Type 0} {a b : List ℕ} {ts us : List Token} → Reads P a ts → Reads Q b us → ((rest : List ℕ) → Q rest → P (b ++ rest)) → Reads Q (a ++ b) (ts ++ us)
+join {a = a} {b = b} {ts = ts} {us = us} first second fits = record {
+  unbroken = all_append (λ c. not (c == 10)) a b first.unbroken second.unbroken;
+  read = λ rest q. ap tokens (append_assoc a b rest) ∙ first.read (b ++ rest) (fits rest q) ∙ ap (λ vs. ts ++ vs) (second.read rest q) ∙ sym (append_assoc ts us (tokens rest));
+}
+
+-- what is read in front of some texts is read in front of fewer
+pub fewer : {P Q : List ℕ → Type 0} {a : List ℕ} {ts : List Token} → Reads P a ts → ((rest : List ℕ) → Q rest → P rest) → Reads Q a ts
+fewer r fits = record { unbroken = r.unbroken; read = λ rest q. r.read rest (fits rest q) }
+
+-- a character that is a token by itself, whatever follows
+pub mark : {P : List ℕ → Type 0} (c : ℕ) → not (c == 10) ≡ true → tokens (c ∷ []) ≡ plain (c ∷ []) ∷ [] → ((d : ℕ) (t : List ℕ) → tokens (c ∷ d ∷ t) ≡ plain (c ∷ []) ∷ tokens (d ∷ t)) → Reads P (c ∷ []) (plain (c ∷ []) ∷ [])
+mark {P = P} c unbroken last before = record { unbroken = and_from (not (c == 10)) true unbroken refl; read = go }
+  where
+    go : (rest : List ℕ) → P rest → tokens (c ∷ rest) ≡ plain (c ∷ []) ∷ tokens rest
+    go [] p = last
+    go (d ∷ t) p = before d t
+
+-- a blank is no token
+pub blank_mark : {P : List ℕ → Type 0} → Reads P (32 ∷ []) []
+blank_mark = record { unbroken = refl; read = λ rest p. refl }
+
+-- a comma and a blank
+pub comma_mark : {P : List ℕ → Type 0} → Reads P (44 ∷ 32 ∷ []) (plain (codes ",") ∷ [])
+comma_mark = record { unbroken = refl; read = λ rest p. refl }
+
+-- a colon before no colon
+pub colon_mark : Reads BeforeNoColon (58 ∷ []) (plain (codes ":") ∷ [])
+colon_mark = record { unbroken = refl; read = go }
+  where
+    go : (rest : List ℕ) → BeforeNoColon rest → tokens (58 ∷ rest) ≡ plain (codes ":") ∷ tokens rest
+    go [] p = refl
+    go (d ∷ t) p = simp p
+
+-- an operator before a blank
+pub operator_mark : (o : BinaryOp) → Reads BeforeBlank (operator_text o) (operator o ∷ [])
+operator_mark o = record { unbroken = unbroken o; read = λ rest p. ap (λ r. tokens (operator_text o ++ r)) p.1 ∙ before o p.0 ∙ ap (λ r. operator o ∷ tokens r) (sym p.1) }
+  where
+    unbroken : (o : BinaryOp) → has_no_break (operator_text o) ≡ true
+    unbroken power = refl
+    unbroken _ = refl
+
+    before : (o : BinaryOp) (t : List ℕ) → tokens (operator_text o ++ 32 ∷ t) ≡ operator o ∷ tokens t
+    before power t = refl
+    before _ t = refl
+
+-- a sign, or .NOT. and a blank
+pub prefix_mark : {P : List ℕ → Type 0} (o : UnaryOp) → Reads P (sign_text o) (prefix o ∷ [])
+prefix_mark plus = mark 43 refl refl (λ d t. refl)
+prefix_mark minus = mark 45 refl refl (λ d t. refl)
+prefix_mark negation = record { unbroken = refl; read = λ rest p. refl }
+
+-- a word
+pub word_mark : (w : List ℕ) → NameWord w → Reads Ends w (plain w ∷ [])
+word_mark w n = record { unbroken = name_bytes_unbroken w n.bytes; read = λ rest stop. word_token w rest n.bytes n.some stop }

@@ -1,9 +1,8 @@
--- Constants, names and signs as operands of a free-form text (ISO/IEC 1539:1991 sections 4.3.1.1 and 7.1.1).
-use Rattle.std.specs.Prelude.{◌≡◌, ℕ, ◌<◌, ◌≤◌, Bool, ◌&&◌, ◌||◌, ◌==◌, nat_le, IsTrue, List, length, slice_index, pos}
+-- Integer constants and names of a free-form text (ISO/IEC 1539:1991 sections 3.2.1 and 4.3.1.1).
+use Rattle.std.specs.Prelude.{◌≡◌, ℕ, ◌<◌, ◌≤◌, Bool, ◌&&◌, ◌||◌, ◌==◌, nat_le, IsTrue, List, length, slice_index}
 use Rattle.std.specs.List.{list_all}
 use Rattle.std.specs.Str.Parse.{digits_value}
 use Rattle.text_base.specs.declared.limits.TheConstants.{GREATEST_INTEGER, LONGEST_NAME}
-use Rattle.text_base.specs.Trees.{UnaryOp, plus, minus, BinaryOp, add, subtract, Expr, int, name}
 
 -- the letters, which are read as upper case, and the digits (ISO/IEC 1539:1991 section 3.1)
 abbrev pub is_letter : ℕ → Bool
@@ -26,17 +25,3 @@ pub record IsConstant (text : List ℕ) (value : ℕ) : Type 0 where
   pub digits : IsTrue (list_all is_figure text)
   pub is : value ≡ digits_value 10 text
   pub within : value ≤ GREATEST_INTEGER
-
--- an operand of a sum: a constant or a variable
-pub data SpellsOperand (text : List ℕ) (e : Expr) : Type 0 where
-  spells_constant : {v : ℕ} → IsConstant text v → e ≡ int (pos v) → SpellsOperand text e
-  spells_variable : IsTrue (is_free_form_name text) → e ≡ name text → SpellsOperand text e
-
--- the two signs, and the two operators
-pub data IsSign (c : ℕ) : UnaryOp → Type 0 where
-  is_plus : c ≡ 43 → IsSign c plus
-  is_minus : c ≡ 45 → IsSign c minus
-
-pub data IsOperator (c : ℕ) : BinaryOp → Type 0 where
-  is_add : c ≡ 43 → IsOperator c add
-  is_subtract : c ≡ 45 → IsOperator c subtract

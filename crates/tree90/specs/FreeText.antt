@@ -1,43 +1,17 @@
 -- The reading of a free-form text (ISO/IEC 1539:1991 sections 3.2, 3.3.1, 5, 7 and 11.1), for the forms that are written:
 -- a relation between a text and a plain program with its comments. No statement of these forms is continued.
-use Rattle.std.specs.Prelude.{◌≡◌, ℕ, Bool, true, false, ◌&&◌, ◌||◌, ◌==◌, nat_le, IsTrue, List, [], ◌∷◌, ◌++◌, length, drop, map, codes, if◌then◌else◌}
+use Rattle.std.specs.Prelude.{◌≡◌, ℕ, Bool, true, false, ◌==◌, nat_le, IsTrue, List, [], ◌∷◌, ◌++◌, length, drop, map, codes, if◌then◌else◌}
 use Rattle.std.specs.List.{list_all}
 use Rattle.text_base.specs.Lines.{cut, is_blank}
-use Rattle.text_base.specs.Chars.{to_upper}
-use Rattle.tree90.specs.Constants.{is_letter, is_figure, is_free_form_name, SpellsOperand, IsSign, IsOperator}
-use Rattle.text_base.specs.Trees.{UnaryOp, BinaryOp, Expr, name, unary, binary, assign, stop}
+use Rattle.text_base.specs.Trees.{Expr, name, assign, stop}
 use Rattle.text_base.specs.Remarks.{Remark}
 use Rattle.text_base.specs.declared.limits.TheConstants.{LONGEST_WRITTEN}
+use Rattle.tree90.specs.Constants.{is_free_form_name}
+use Rattle.tree90.specs.FreeTokens.{Token, plain, tokens}
+use Rattle.tree90.specs.FreeExpressions.{IsFreeExpression}
 use Rattle.tree90.specs.Tree.{Stmt, simple, Code, done, item, Declared, integer_object, FreeUnit, FreeProgram}
 
--- ---- lexical tokens
-
--- letters of either case, digits and underscores
-abbrev pub is_word_byte : ℕ → Bool
-is_word_byte c = is_letter (to_upper c) || is_figure c || c == 95
-
--- a character belongs to one token with the next: both are of a word, or both are colons
-abbrev pub joins : ℕ → List ℕ → Bool
-joins c [] = false
-joins c (d ∷ t) = (is_word_byte c && is_word_byte d) || (c == 58 && d == 58)
-
-abbrev pub attach : ℕ → List (List ℕ) → List (List ℕ)
-attach c [] = (c ∷ []) ∷ []
-attach c (w ∷ ws) = (c ∷ w) ∷ ws
-
--- The tokens of a line: longest runs of word characters and of colons, and each other character by itself. Blanks
--- separate, and letters are read as upper case.
-abbrev pub tokens : List ℕ → List (List ℕ)
-tokens [] = []
-tokens (c ∷ t) = if c == 32 then tokens t else (if joins c t then attach (to_upper c) (tokens t) else (to_upper c ∷ []) ∷ tokens t)
-
 -- ---- statements
-
--- A sum groups from the left, and a sign belongs to the first operand.
-pub data SpellsSum : List (List ℕ) → Expr → Type 0 where
-  sum_operand : {ts : List (List ℕ)} {e : Expr} {w : List ℕ} → ts ≡ w ∷ [] → SpellsOperand w e → SpellsSum ts e
-  sum_signed : {ts : List (List ℕ)} {e : Expr} {w : List ℕ} {c : ℕ} {op : UnaryOp} {a : Expr} → ts ≡ (c ∷ []) ∷ w ∷ [] → IsSign c op → SpellsOperand w a → e ≡ unary op a → SpellsSum ts e
-  sum_more : {ts : List (List ℕ)} {e : Expr} {us : List (List ℕ)} {w : List ℕ} {c : ℕ} {op : BinaryOp} {a b : Expr} → ts ≡ us ++ (c ∷ []) ∷ w ∷ [] → IsOperator c op → SpellsSum us a → SpellsOperand w b → e ≡ binary op a b → SpellsSum ts e
 
 -- a statement by itself
 pub data FreeStatement : Type 0 where
@@ -48,23 +22,23 @@ pub data FreeStatement : Type 0 where
   executable : Stmt → FreeStatement
   end : List ℕ → FreeStatement
 
-pub data SpellsFree (ts : List (List ℕ)) (s : FreeStatement) : Type 0 where
-  free_header : {x : List ℕ} → ts ≡ codes "PROGRAM" ∷ x ∷ [] → IsTrue (is_free_form_name x) → s ≡ header x → SpellsFree ts s
-  free_implicit : ts ≡ codes "IMPLICIT" ∷ codes "NONE" ∷ [] → s ≡ implicit_none → SpellsFree ts s
-  free_save : ts ≡ codes "SAVE" ∷ [] → s ≡ save → SpellsFree ts s
-  free_integer : {x : List ℕ} → ts ≡ codes "INTEGER" ∷ codes "::" ∷ x ∷ [] → IsTrue (is_free_form_name x) → s ≡ declaration (integer_object x) → SpellsFree ts s
-  free_assign : {x : List ℕ} {us : List (List ℕ)} {e : Expr} → ts ≡ x ∷ codes "=" ∷ us → IsTrue (is_free_form_name x) → SpellsSum us e → s ≡ executable (simple (assign (name x) e)) → SpellsFree ts s
-  free_stop : ts ≡ codes "STOP" ∷ [] → s ≡ executable (simple stop) → SpellsFree ts s
+pub data SpellsFree (ts : List Token) (s : FreeStatement) : Type 0 where
+  free_header : {x : List ℕ} → ts ≡ plain (codes "PROGRAM") ∷ plain x ∷ [] → IsTrue (is_free_form_name x) → s ≡ header x → SpellsFree ts s
+  free_implicit : ts ≡ plain (codes "IMPLICIT") ∷ plain (codes "NONE") ∷ [] → s ≡ implicit_none → SpellsFree ts s
+  free_save : ts ≡ plain (codes "SAVE") ∷ [] → s ≡ save → SpellsFree ts s
+  free_integer : {x : List ℕ} → ts ≡ plain (codes "INTEGER") ∷ plain (codes "::") ∷ plain x ∷ [] → IsTrue (is_free_form_name x) → s ≡ declaration (integer_object x) → SpellsFree ts s
+  free_assign : {x : List ℕ} {us : List Token} {e : Expr} → ts ≡ plain x ∷ plain (codes "=") ∷ us → IsTrue (is_free_form_name x) → IsFreeExpression us e → s ≡ executable (simple (assign (name x) e)) → SpellsFree ts s
+  free_stop : ts ≡ plain (codes "STOP") ∷ [] → s ≡ executable (simple stop) → SpellsFree ts s
   -- the two words of END PROGRAM may stand together (ISO/IEC 1539:1991 section 3.3.1)
-  free_end : {x : List ℕ} → ts ≡ codes "END" ∷ codes "PROGRAM" ∷ x ∷ [] → IsTrue (is_free_form_name x) → s ≡ end x → SpellsFree ts s
-  free_end_together : {x : List ℕ} → ts ≡ codes "ENDPROGRAM" ∷ x ∷ [] → IsTrue (is_free_form_name x) → s ≡ end x → SpellsFree ts s
+  free_end : {x : List ℕ} → ts ≡ plain (codes "END") ∷ plain (codes "PROGRAM") ∷ plain x ∷ [] → IsTrue (is_free_form_name x) → s ≡ end x → SpellsFree ts s
+  free_end_together : {x : List ℕ} → ts ≡ plain (codes "ENDPROGRAM") ∷ plain x ∷ [] → IsTrue (is_free_form_name x) → s ≡ end x → SpellsFree ts s
 
 -- ---- lines
 
 -- a line is a comment or the tokens of a statement
 pub data FreeLine : Type 0 where
   comment_line : Remark → FreeLine
-  statement_line : List (List ℕ) → FreeLine
+  statement_line : List Token → FreeLine
 
 abbrev pub starts_comment : List ℕ → Bool
 starts_comment [] = false
@@ -83,7 +57,7 @@ comment_lines = map comment_line
 
 -- After some comments the lines have a statement, and then the rest.
 pub record SpellsNext (ls : List FreeLine) (remarks : List Remark) (s : FreeStatement) (rest : List FreeLine) : Type 0 where
-  pub line : List (List ℕ)
+  pub line : List Token
   pub whole : ls ≡ comment_lines remarks ++ statement_line line ∷ rest
   pub spelled : SpellsFree line s
 

@@ -3,5 +3,8 @@ pub mod Plain
 pub mod Printed
 pub mod Meaning
 pub mod Constants
+pub mod FreeTokens
+pub mod FreeExpressions
 pub mod FreeText
 pub mod Proper
+pub mod MadeNames

@@ -2,7 +2,7 @@
 use Rattle.std.specs.Prelude.{◌≡◌, ℕ, ℤ, pos, Bool, ◌&&◌, ◌-◌, List, [], ◌∷◌, map, flat_map, slice_get, Option, Some, None, unwrap_or, if◌then◌else◌}
 use Rattle.std.specs.Option.{option_and_then}
 use Rattle.std.specs.Str.{bytes_eq}
-use Rattle.text_base.specs.Values.{Value, integer, Undefined}
+use Rattle.text_base.specs.Values.{Value, integer, logical, string, no_meaning}
 use Rattle.text_base.specs.Runs.{Final, ended, fault, Out, gives, over, bind, close, tick, How, normal}
 use Rattle.text_base.specs.Evaluation.{Storage, Call}
 use Rattle.text_base.specs.Evaluation as e
@@ -65,6 +65,8 @@ object_byte w home x place = option_and_then (byte_at place) (cells_of w home x)
 -- a scalar with a value
 abbrev pub scalar : Value → Cells
 scalar (integer v) = integers (v ∷ [])
+scalar (logical b) = logicals (b ∷ [])
+scalar (string t) = characters t
 
 -- the objects as a unit sees them: no value is undefined
 abbrev pub untagged : List ℕ → Storage Objects
@@ -92,9 +94,9 @@ module _ (storage : Storage Objects) (call : Call Objects) where
 abbrev pub unit_end : ℕ → Objects → How → Out Objects (Unit {0})
 unit_end n w normal = tick n w (λ n. gives n w tt)
 
--- no function is referred to in this language
+-- no function is referred to but intrinsic ones
 abbrev pub no_function : Call Objects
-no_function f n w = over (fault nowhere Undefined)
+no_function f values n w = over (fault nowhere no_meaning)
 
 -- what all units declare, each declaration with the name of its unit
 abbrev pub declared_in : FreeProgram → List (List ℕ × Declared)

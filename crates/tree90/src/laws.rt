@@ -5,10 +5,14 @@ ghost use Rattle.tree90.specs.FreeText.{SpellsText};
 ghost use Rattle.tree90.specs.Printed.{printed};
 ghost use Rattle.tree90.specs.Proper.{IsWritable};
 
+use group77::one_tree;
+
 /// A text has at most one reading: one program, with one list of comments at each place.
 pub fn one_reading()
     ensures { (text : List ℕ) (p q : FreeProgram) → SpellsText text p → SpellsText text q → p ≡ q }
-{}
+{
+    one_tree();
+}
 
 /// The text of a program that can be written is read as that program.
 pub fn printed_is_read()

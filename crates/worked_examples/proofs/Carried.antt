@@ -3,7 +3,8 @@ use Rattle.std.proofs.Common.{◌≡◌, ℕ, zero, suc, ◌-◌, ℤ, pos, Bool
 use Rattle.std.proofs.lemmas.List.Elements.{Contains-get_or}
 use Rattle.std.proofs.lemmas.Option.{slice_get_within, get_or_from_slice_get}
 use Rattle.std.specs.Option.{option_and_then}
-use Rattle.program77.specs.Layout.{Layout, integers, layout_of}
+use Rattle.text_base.specs.Values.{integers}
+use Rattle.program77.specs.Layout.{Layout, layout_of}
 use Rattle.tree90.specs.Tree.{FreeProgram}
 use Rattle.tree90.specs.Meaning.{integer_at}
 use Rattle.tree90.specs.Meaning as free

@@ -53,7 +53,7 @@ module _ (cut : ℕ → List ℕ → List Piece) where
       first_of (files_refusals 0 0 (bytes ∷ []))
       (first_of (deck_by (cards 0 bytes))
       (first_of (map not_built_at (filter (λ card. not (is_built_as (program_name (reads 0 bytes)) (built_at card.label (outcome card)))) (cards 0 bytes)))
-      (unit_refusals 0 (read_unit (reads 0 bytes)))))
+      (unit_refusals 0 (option_and_then typed_unit (read_unit (reads 0 bytes))))))
 
 -- by the cut of the definitions they are those of the definitions
 same_readings : (n : ℕ) (cs : List Card) → card_readings n cs ≡ readings pieces_of n cs
@@ -74,5 +74,5 @@ lazily_refused bytes =
     ap (λ rs. first_of (files_refusals 0 0 (bytes ∷ []))
     (first_of rs
     (first_of (map not_built_at (filter (λ card. not (is_built_as (program_name (reads pieces_of 0 bytes)) (built_at card.label (outcome pieces_of card)))) (cards 0 bytes)))
-    (unit_refusals 0 (read_unit (reads pieces_of 0 bytes)))))) (same_deck (cards 0 bytes))
+    (unit_refusals 0 (option_and_then typed_unit (read_unit (reads pieces_of 0 bytes))))))) (same_deck (cards 0 bytes))
     ∙ (λ i. all_refusals_by (λ label text. lazily_cut label text i) bytes)

@@ -1,7 +1,9 @@
 -- Expressions, by their characters without blanks, with their trees.
-use Rattle.std.specs.Prelude.{ℕ, zero, suc, true, false, List, [], ◌∷◌, ◌++◌, replicate, codes}
+use Rattle.std.specs.Prelude.{ℕ, zero, suc, ◌||◌, true, false, List, [], ◌∷◌, ◌++◌, replicate, codes, Option, Some, None, if◌then◌else◌}
+use Rattle.std.specs.Str.{bytes_eq}
 use Rattle.text_base.specs.Pieces.{Piece, whole}
 use Rattle.text_base.specs.Trees.{plus, minus, negation, power, times, over, add, subtract, concat, less, less_equal, equal, not_equal, greater, greater_equal, conjunction, disjunction, equivalence, nonequivalence, Expr, bool, text, call, substring, unary, binary, paren, none, more, absent, at}
+use Rattle.text_base.specs.Values.{Kind, integers, logicals, characters}
 use Rattle.text_base.specs.declared.refusal.Cause.TheVariants.{NotAStatement, Unsupported, ConstantRange, NameTooLong}
 use Rattle.tree77.specs.Lexemes.{Part}
 use Rattle.worked_examples.specs.Read.{variable, number}
@@ -79,6 +81,38 @@ expressions =
     ∷ (outside (codes "1.EQ.2"), binary equal (number 1) (number 2))
     ∷ (whole (codes "'it''s'") ∷ [], text (codes "it's"))
     ∷ (whole (codes "' a '") ∷ outside (codes "//") ++ whole (codes "'b'") ∷ [], binary concat (text (codes " a ")) (text (codes "b")))
+    ∷ []
+
+-- expressions with their types, where I and MOD are integers
+abbrev pub i_is_integer : List ℕ → Option Kind
+i_is_integer x = if bytes_eq x (codes "I") || bytes_eq x (codes "MOD") then Some integers else None
+
+abbrev i : Expr
+i = variable (codes "I")
+
+abbrev pub typed_expressions : List (Expr × Option Kind)
+typed_expressions =
+    (binary add (unary minus i) (paren (number 1)), Some integers)
+    ∷ (binary less i (number 1), Some logicals)
+    ∷ (binary conjunction (binary less i (number 1)) (bool true), Some logicals)
+    ∷ (binary equal (text (codes "A")) (text (codes "AB")), Some logicals)
+    ∷ (binary concat (text (codes "A")) (text (codes "B")), Some characters)
+    -- intrinsic functions; one whose name is a variable's, one of too few arguments, and one of another type
+    ∷ (call (codes "DIM") (more i (more (number 2) none)), Some integers)
+    ∷ (call (codes "MIN") (more i (more (number 2) (more i none))), Some integers)
+    ∷ (call (codes "CHAR") (more i none), Some characters)
+    ∷ (call (codes "LEN") (more (text (codes "A")) none), Some integers)
+    ∷ (call (codes "LGE") (more (text (codes "A")) (more (text (codes "B")) none)), Some logicals)
+    ∷ (call (codes "MOD") (more i (more (number 2) none)), None)
+    ∷ (call (codes "DIM") (more i none), None)
+    ∷ (call (codes "LEN") (more i none), None)
+    -- a name that is no variable's, an array element, a substring, and operands of other types
+    ∷ (variable (codes "J"), None)
+    ∷ (call (codes "J") (more i none), None)
+    ∷ (substring i absent absent, None)
+    ∷ (binary add i (bool true), None)
+    ∷ (binary less (text (codes "A")) i, None)
+    ∷ (unary negation i, None)
     ∷ []
 
 abbrev not_a_statement : List ℕ → Part

@@ -1,7 +1,7 @@
 -- Expressions and lines of the map, as they are written.
 use Rattle.std.specs.Prelude.{ℕ, true, false, List, [], ◌∷◌, codes}
 use Rattle.text_base.specs.Trees.{plus, minus, negation, power, times, over, add, subtract, concat, less, less_equal, equal, not_equal, greater, greater_equal, conjunction, disjunction, equivalence, nonequivalence, Expr, bool, text, call, substring, unary, binary, paren, none, more, absent, at}
-use Rattle.program77.specs.Layout.{Kind, integers, logicals, characters}
+use Rattle.text_base.specs.Values.{Kind, integers, logicals, characters}
 use Rattle.project_set.specs.MapText.{MapLine}
 use Rattle.worked_examples.specs.Read.{variable, number}
 

@@ -1,7 +1,7 @@
 -- What the sources are read into.
 use Rattle.std.specs.Prelude.{ℕ, pos, true, false, List, [], ◌∷◌, ◌++◌, codes}
 use Rattle.text_base.specs.Cards.{Card, Comment}
-use Rattle.text_base.specs.Trees.{Expr, int, name, binary, times, add, subtract, assign, stop}
+use Rattle.text_base.specs.Trees.{Expr, int, name, call, binary, paren, none, more, power, times, add, subtract, assign, stop}
 use Rattle.text_base.specs.declared.refusal.Place.{Place}
 use Rattle.program77.specs.Source.{IsSource}
 use Rattle.program77.specs.Tree.{simple, continue, Code, done, item, SourceProgram}
@@ -78,8 +78,12 @@ overflow_program =
     done))
     4
 
+-- MOD((I + 2) * 3, 4) ** 2
+abbrev pub product_value : Expr
+product_value = binary power (call (codes "MOD") (more (binary times (paren (binary add (variable (codes "I")) (number 2))) (number 3)) (more (number 4) none))) (number 2)
+
 abbrev pub product_program : SourceProgram
-product_program = program_t 1 (assigned 2 (codes "J") (binary times (variable (codes "I")) (number 2)) done) 3
+product_program = program_t 1 (assigned 2 (codes "I") (number 7) (assigned 3 (codes "J") product_value done)) 4
 
 -- a sum whose left operand passes the greatest integer, and whose right operand has no value
 abbrev pub order_program : SourceProgram

@@ -1,6 +1,7 @@
 -- How the programs run.
 use Rattle.std.specs.Prelude.{ℕ, pos, List, [], ◌∷◌, codes, None}
-use Rattle.text_base.specs.Values.{Held, holds_integer, RunFault}
+use Rattle.text_base.specs.Values.{Held, holds_integer, run_fault}
+use Rattle.text_base.specs.declared.operation.RunFault.{RunFault}
 use Rattle.text_base.specs.Runs.{Final, going, ended, fault}
 use Rattle.program77.specs.Meaning.{Store}
 use Rattle.tree90.specs.Meaning.{Object, Objects, integers}
@@ -22,7 +23,7 @@ abbrev pub has_ended : List Held → Final Store
 has_ended places = ended (store places) None
 
 abbrev pub has_faulted : ℕ → RunFault → Final Store
-has_faulted line why = fault (at_line line) why
+has_faulted line why = fault (at_line line) (run_fault why)
 
 -- an object of the program T, with its value
 abbrev pub object : List ℕ → ℕ → Object

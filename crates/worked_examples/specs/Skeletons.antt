@@ -1,7 +1,7 @@
 -- The skeleton of the whole program, and what skeletons show of expressions.
 use Rattle.std.specs.Prelude.{pos, true, List, [], ◌∷◌, codes}
 use Rattle.text_base.specs.Trees.{minus, negation, power, add, subtract, conjunction, Expr, bool, text, call, substring, unary, binary, paren, none, more, absent, at}
-use Rattle.project_set.specs.Skeleton.{Mark, leaf, integer, logical, characters, sign, operator, opening, closing, Entry, assigned, stopped, ended}
+use Rattle.project_set.specs.Skeleton.{Mark, leaf, integer, logical, characters, sign, operator, function, opening, closing, Entry, assigned, stopped, ended}
 use Rattle.worked_examples.specs.Read.{variable, number}
 
 abbrev pub whole_skeleton : List Entry
@@ -21,8 +21,11 @@ shown_expressions =
     ∷ (bool true, logical true ∷ [])
     ∷ (text (codes "AB"), characters (codes "AB") ∷ [])
     ∷ (variable (codes "I"), leaf ∷ [])
-    -- A(I+1) and A(2:) are leaves
-    ∷ (call (codes "A") (more (binary add (variable (codes "I")) (number 1)) none), leaf ∷ [])
+    -- MOD(I+1,2); A(2:) is a leaf
+    ∷ (
+      call (codes "MOD") (more (binary add (variable (codes "I")) (number 1)) (more (number 2) none)),
+      function (codes "MOD") ∷ opening ∷ leaf ∷ operator add ∷ integer (pos 1) ∷ integer (pos 2) ∷ closing ∷ [],
+    )
     ∷ (substring (variable (codes "A")) (at (number 2)) absent, leaf ∷ [])
     -- -I, .NOT. L, (I-1)**2
     ∷ (unary minus (variable (codes "I")), sign minus ∷ leaf ∷ [])

@@ -53,16 +53,17 @@ overflow_source =
     ++ codes "      J = I + 1\n"
     ++ codes "      END\n"
 
--- a program with a product, which isn't converted yet
+-- a program with a product, a power, parentheses and an intrinsic function
 abbrev pub product_source : List ℕ
 product_source =
     codes "      PROGRAM T\n"
-    ++ codes "      J = I * 2\n"
+    ++ codes "      I = 7\n"
+    ++ codes "      J = MOD((I + 2) * 3, 4) ** 2\n"
     ++ codes "      END\n"
 
 -- Files that are the source of no program: an empty one, one without END, one without PROGRAM, one that goes on behind END,
--- one with a label, with a real variable, with the program's name as a variable, with a statement that has no spelling, and
--- with a line that is refused.
+-- one with a label, with a real variable, with the program's name as a variable, with an intrinsic function whose name is that of
+-- a variable, with a sum of a logical constant, with a statement that has no spelling, and with a line that is refused.
 abbrev pub no_sources : List (List ℕ)
 no_sources =
     []
@@ -72,6 +73,8 @@ no_sources =
     ∷ (codes "      PROGRAM T\n" ++ codes "   10 I = 1\n" ++ codes "      END\n")
     ∷ (codes "      PROGRAM T\n" ++ codes "      A = 1\n" ++ codes "      END\n")
     ∷ (codes "      PROGRAM I\n" ++ codes "      I = 1\n" ++ codes "      END\n")
+    ∷ (codes "      PROGRAM T\n" ++ codes "      MOD = 1\n" ++ codes "      J = MOD(1, 2)\n" ++ codes "      END\n")
+    ∷ (codes "      PROGRAM T\n" ++ codes "      I = 1 + .TRUE.\n" ++ codes "      END\n")
     ∷ (codes "      PROGRAM T\n" ++ codes "      I = 1 +\n" ++ codes "      END\n")
     ∷ (codes "      PROGRAM T\n" ++ codes " A    I = 1\n" ++ codes "      END\n")
     ∷ []

@@ -2,7 +2,8 @@
 use Rattle.std.specs.Prelude.{ℕ, true, false, List, [], ◌∷◌, ◌++◌, codes}
 use Rattle.text_base.specs.Remarks.{Remark}
 use Rattle.text_base.specs.Trees.{binary, add, subtract, Expr, name, assign, stop}
-use Rattle.program77.specs.Layout.{Layout, local, integers}
+use Rattle.text_base.specs.Values.{integers}
+use Rattle.program77.specs.Layout.{Layout, local}
 use Rattle.tree90.specs.Tree.{simple, Code, done, item, integer_object, FreeProgram}
 use Rattle.project_set.specs.Positions.{Position, before_header, after_header, before_entry, at_end, Placed}
 use Rattle.worked_examples.specs.Sources.{blanks}
@@ -37,6 +38,18 @@ whole_map = codes "T.I 0 1 I T:I 1\n" ++ codes "T.J 0 1 I T:J 1\n" ++ codes "T.M
 -- the report
 abbrev pub whole_report : List ℕ
 whole_report = codes "UNITS 1\n" ++ codes "WEBS 0\n" ++ codes "KEPT 0\n" ++ codes "ARRAYS 0\n" ++ codes "CUT 1\n"
+
+-- the text that is written for the program with a product
+abbrev pub product_text : List ℕ
+product_text =
+    codes "PROGRAM T\n"
+    ++ codes "  IMPLICIT NONE\n"
+    ++ codes "  SAVE\n"
+    ++ codes "  INTEGER :: I\n"
+    ++ codes "  INTEGER :: J\n"
+    ++ codes "  I = 7\n"
+    ++ codes "  J = MOD((I + 2) * 3, 4) ** 2\n"
+    ++ codes "END PROGRAM T\n"
 
 -- ---- as a tree
 

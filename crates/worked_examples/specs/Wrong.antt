@@ -1,7 +1,8 @@
 -- Written programs and maps that aren't right for the program that assigns 1 to I.
 use Rattle.std.specs.Prelude.{ℕ, List, [], ◌∷◌, codes}
 use Rattle.text_base.specs.Trees.{name, assign}
-use Rattle.program77.specs.Layout.{integers, layout_of}
+use Rattle.text_base.specs.Values.{integers}
+use Rattle.program77.specs.Layout.{layout_of}
 use Rattle.program77.specs.Meaning.{run77}
 use Rattle.tree90.specs.Tree.{simple, Code, done, item, integer_object, FreeProgram}
 use Rattle.tree90.specs.Meaning.{run90}

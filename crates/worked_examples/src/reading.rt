@@ -32,4 +32,5 @@ pub fn accepted_sources()
     ensures short { refusals short_source ≡ [] }
     ensures undefined { refusals undefined_source ≡ [] }
     ensures overflow { refusals overflow_source ≡ [] }
+    ensures product { refusals product_source ≡ [] }
 {}

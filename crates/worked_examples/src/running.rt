@@ -1,12 +1,13 @@
 // Runs of programs, statement by statement.
 ghost use Rattle.std.specs.Prelude.{◌≡◌, [], ◌∷◌, codes, pos, negsuc, None};
-ghost use Rattle.text_base.specs.Operations.{unary_result, binary_result, computes, faults};
-ghost use Rattle.text_base.specs.Trees.{plus, minus, add, subtract};
-ghost use Rattle.text_base.specs.Values.{integer, undefined, Undefined, Overflow};
+ghost use Rattle.text_base.specs.Operations.{outcome, computes, faults};
+ghost use Rattle.text_base.specs.Values.{integer, undefined};
+ghost use Rattle.text_base.specs.declared.operation.Op.TheVariants as op;
+ghost use Rattle.text_base.specs.declared.operation.RunFault.TheVariants.{Undefined, Overflow};
 ghost use Rattle.text_base.specs.Runs.{going, ended, fault};
 ghost use Rattle.program77.specs.Meaning.{run77};
 ghost use Rattle.tree90.specs.Meaning.{nowhere, IsStart, run90};
-ghost use Rattle.worked_examples.specs.Read.{whole_program, short_program, undefined_program, overflow_program, order_program};
+ghost use Rattle.worked_examples.specs.Read.{whole_program, short_program, undefined_program, overflow_program, order_program, product_program};
 ghost use Rattle.worked_examples.specs.Runs.{value, goes_on, has_ended, has_faulted, three};
 ghost use Rattle.worked_examples.specs.Written.{whole_written};
 
@@ -51,15 +52,22 @@ pub fn order_of_operands()
 
 /// The least and the greatest integer, and what passes them. `negsuc n` is -1 - n.
 pub fn operations()
-    ensures sum { binary_result add (integer (pos 3)) (integer (pos 2)) ≡ computes (integer (pos 5)) }
-    ensures difference { binary_result subtract (integer (pos 3)) (integer (pos 5)) ≡ computes (integer (negsuc 1)) }
-    ensures greatest { binary_result add (integer (pos 2147483646)) (integer (pos 1)) ≡ computes (integer (pos 2147483647)) }
-    ensures above { binary_result add (integer (pos 2147483647)) (integer (pos 1)) ≡ faults Overflow }
-    ensures least { binary_result subtract (integer (negsuc 2147483646)) (integer (pos 1)) ≡ computes (integer (negsuc 2147483647)) }
-    ensures below { binary_result subtract (integer (negsuc 2147483646)) (integer (pos 2)) ≡ faults Overflow }
-    ensures plus { unary_result plus (integer (pos 7)) ≡ computes (integer (pos 7)) }
-    ensures minus { unary_result minus (integer (pos 7)) ≡ computes (integer (negsuc 6)) }
-    ensures minus_least { unary_result minus (integer (negsuc 2147483647)) ≡ faults Overflow }
+    ensures sum { outcome op.Plus (integer (pos 3) ∷ integer (pos 2) ∷ []) ≡ computes (integer (pos 5)) }
+    ensures difference { outcome op.Minus (integer (pos 3) ∷ integer (pos 5) ∷ []) ≡ computes (integer (negsuc 1)) }
+    ensures greatest { outcome op.Plus (integer (pos 2147483646) ∷ integer (pos 1) ∷ []) ≡ computes (integer (pos 2147483647)) }
+    ensures above { outcome op.Plus (integer (pos 2147483647) ∷ integer (pos 1) ∷ []) ≡ faults Overflow }
+    ensures least { outcome op.Minus (integer (negsuc 2147483646) ∷ integer (pos 1) ∷ []) ≡ computes (integer (negsuc 2147483647)) }
+    ensures below { outcome op.Minus (integer (negsuc 2147483646) ∷ integer (pos 2) ∷ []) ≡ faults Overflow }
+    ensures plus { outcome op.Positive (integer (pos 7) ∷ []) ≡ computes (integer (pos 7)) }
+    ensures minus { outcome op.Negative (integer (pos 7) ∷ []) ≡ computes (integer (negsuc 6)) }
+    ensures minus_least { outcome op.Negative (integer (negsuc 2147483647) ∷ []) ≡ faults Overflow }
+{}
+
+/// I is 7, and J is MOD((I + 2) * 3, 4) ** 2: the rest of 27 by 4 is 3.
+pub fn product_run()
+    ensures at_1 { run77 product_program 1 ≡ goes_on (value 7 ∷ undefined ∷ []) }
+    ensures at_2 { run77 product_program 2 ≡ goes_on (value 7 ∷ value 9 ∷ []) }
+    ensures at_3 { run77 product_program 3 ≡ has_ended (value 7 ∷ value 9 ∷ []) }
 {}
 
 /// What is written for the whole program, statement by statement, from objects on that begin with any values.

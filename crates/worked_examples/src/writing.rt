@@ -10,17 +10,19 @@ ghost use Rattle.project_set.specs.Positions.{source_positions, written_position
 ghost use Rattle.project_set.specs.Rewrite.{written};
 ghost use Rattle.worked_examples.specs.Printed.{printed_expressions, map_lines};
 ghost use Rattle.worked_examples.specs.Tables.{Gives};
-ghost use Rattle.worked_examples.specs.Sources.{whole_source};
-ghost use Rattle.worked_examples.specs.Read.{whole_comments, whole_program, undefined_program};
-ghost use Rattle.worked_examples.specs.Written.{whole_text, whole_map, whole_report, whole_written, whole_positions, whole_layout};
+ghost use Rattle.worked_examples.specs.Sources.{whole_source, product_source};
+ghost use Rattle.worked_examples.specs.Read.{whole_comments, whole_program, undefined_program, product_program};
+ghost use Rattle.worked_examples.specs.Written.{whole_text, product_text, whole_map, whole_report, whole_written, whole_positions, whole_layout};
 
 use crate::reading::{accepted_sources, sources};
 use project_set::written_is_proper;
 use tree90::printed_is_read;
 
-/// The three texts, byte for byte; and a map in which a variable that is only read stands behind the one on its left.
+/// The three texts, byte for byte; a text with a product; and a map in which a variable that is only read stands behind the one on
+/// its left.
 pub fn whole_texts()
     ensures text { program_text whole_source whole_program ≡ whole_text }
+    ensures product { program_text product_source product_program ≡ product_text }
     ensures map { program_map whole_program ≡ whole_map }
     ensures read_only { program_map undefined_program ≡ codes "T.I 0 1 I T:I 1\nT.J 0 1 I T:J 1\nT.K 0 1 I T:K 1\n" }
     ensures report { program_report whole_source whole_program ≡ whole_report }

@@ -253,6 +253,132 @@ T.I 0 1 I T:I 1\n\
 T.\31{N} 0 1 I T:\31{N} 1\n\
 T.\24{M} 0 1 I T:\24{M} 1\n ~ \
 UNITS 1\nWEBS 0\nKEPT 0\nARRAYS 0\nCUT 0\n
+
+# products, quotients and powers with parentheses, and comments between
+C     AREA OF A FRAME\n\
+      PROGRAM FRAME\n\
+      IWIDE = 12\n\
+*     BOTH SIDES\n\
+      INNER = (IWIDE - 2*3)*(IWIDE/5 + 1)\n\
+!\n\
+      KEPT=-(IWIDE**2-INNER)/(-7)\n\
+\n\
+      KEPT = ((KEPT))*IWIDE**(-1)\n\
+      STOP\n\
+      END\n ~ \
+!     AREA OF A FRAME\n\
+PROGRAM FRAME\n\
+  IMPLICIT NONE\n\
+  SAVE\n\
+  INTEGER :: IWIDE\n\
+  INTEGER :: INNER\n\
+  INTEGER :: KEPT\n\
+  IWIDE = 12\n\
+!     BOTH SIDES\n\
+  INNER = (IWIDE - 2 * 3) * (IWIDE / 5 + 1)\n\
+!\n\
+  KEPT = -(IWIDE ** 2 - INNER) / (-7)\n\
+\n\
+  KEPT = ((KEPT)) * IWIDE ** (-1)\n\
+  STOP\n\
+END PROGRAM FRAME\n ~ \
+FRAME.IWIDE 0 1 I FRAME:IWIDE 1\n\
+FRAME.INNER 0 1 I FRAME:INNER 1\n\
+FRAME.KEPT 0 1 I FRAME:KEPT 1\n ~ \
+UNITS 1\nWEBS 0\nKEPT 0\nARRAYS 0\nCUT 0\n
+
+# operators that group from the right and from the left
+      PROGRAM T\n\
+      I = J**K**L - (J - (K - L)) - J/(K*L)/(J/K*L)\n\
+      END\n ~ \
+PROGRAM T\n\
+  IMPLICIT NONE\n\
+  SAVE\n\
+  INTEGER :: I\n\
+  INTEGER :: J\n\
+  INTEGER :: K\n\
+  INTEGER :: L\n\
+  I = J ** K ** L - (J - (K - L)) - J / (K * L) / (J / K * L)\n\
+END PROGRAM T\n ~ \
+T.I 0 1 I T:I 1\n\
+T.J 0 1 I T:J 1\n\
+T.K 0 1 I T:K 1\n\
+T.L 0 1 I T:L 1\n ~ \
+UNITS 1\nWEBS 0\nKEPT 0\nARRAYS 0\nCUT 0\n
+
+# the intrinsic functions of integers, which are no variables, and a comment inside a statement
+      PROGRAM T\n\
+      N = 100\n\
+C FIRST\n\
+      M = MOD(N, 7) + MAX(N, K, -3)*MIN0(1, 2)\n\
+      M = ISIGN(IABS(M - N), -1)\n\
+C INSIDE\n\
+     1  - IDIM(MAX0(M, 1), MIN(N, 2))\n\
+      M = ABS(SIGN(DIM(N, (M)), -L))\n\
+      STOP\n\
+      END\n ~ \
+PROGRAM T\n\
+  IMPLICIT NONE\n\
+  SAVE\n\
+  INTEGER :: N\n\
+  INTEGER :: M\n\
+  INTEGER :: K\n\
+  INTEGER :: L\n\
+  N = 100\n\
+! FIRST\n\
+  M = MOD(N, 7) + MAX(N, K, -3) * MIN0(1, 2)\n\
+! INSIDE\n\
+  M = ISIGN(IABS(M - N), -1) - IDIM(MAX0(M, 1), MIN(N, 2))\n\
+  M = ABS(SIGN(DIM(N, (M)), -L))\n\
+  STOP\n\
+END PROGRAM T\n ~ \
+T.N 0 1 I T:N 1\n\
+T.M 0 1 I T:M 1\n\
+T.K 0 1 I T:K 1\n\
+T.L 0 1 I T:L 1\n ~ \
+UNITS 1\nWEBS 0\nKEPT 0\nARRAYS 0\nCUT 0\n
+
+# variables that have names of functions, which aren't called
+      PROGRAM T\n\
+      MAX = 3\n\
+      MIN = MAX*MAX\n\
+      MOD = -MIN/MAX\n\
+      I = MAX0(MAX, MIN)\n\
+      END\n ~ \
+PROGRAM T\n\
+  IMPLICIT NONE\n\
+  SAVE\n\
+  INTEGER :: MAX\n\
+  INTEGER :: MIN\n\
+  INTEGER :: MOD\n\
+  INTEGER :: I\n\
+  MAX = 3\n\
+  MIN = MAX * MAX\n\
+  MOD = -MIN / MAX\n\
+  I = MAX0(MAX, MIN)\n\
+END PROGRAM T\n ~ \
+T.MAX 0 1 I T:MAX 1\n\
+T.MIN 0 1 I T:MIN 1\n\
+T.MOD 0 1 I T:MOD 1\n\
+T.I 0 1 I T:I 1\n ~ \
+UNITS 1\nWEBS 0\nKEPT 0\nARRAYS 0\nCUT 0\n
+
+# blanks inside operators and names of functions, lower case, leading zeros
+      program t\n\
+      i = 2 * * 3 + ( 1 0 / 4 )\n\
+      j=m o d(i,003)*(+0 2)\n\
+      end\n ~ \
+PROGRAM T\n\
+  IMPLICIT NONE\n\
+  SAVE\n\
+  INTEGER :: I\n\
+  INTEGER :: J\n\
+  I = 2 ** 3 + (10 / 4)\n\
+  J = MOD(I, 3) * (+2)\n\
+END PROGRAM T\n ~ \
+T.I 0 1 I T:I 1\n\
+T.J 0 1 I T:J 1\n ~ \
+UNITS 1\nWEBS 0\nKEPT 0\nARRAYS 0\nCUT 0\n
 ";
 
 /// The file; what is refused of it.
@@ -291,19 +417,19 @@ C     FIRST\n\n*     NEXT\n ~ t.f:0: 99 NotBuilt 0\n
 # a name of 32 letters
       PROGRAM T\n      \32{I} = 1\n      END\n ~ t.f:2: 10 NameTooLong \31{I}\n
 
-# two operators together, parentheses, another operator, an operator at the end
+# two operators together, a logical, a function that isn't intrinsic, an operator at the end
       PROGRAM T\n      I = 2 + -3\n      END\n ~ t.f:2: 7 NotAStatement I=2+-3\n
-      PROGRAM T\n      I = (1)\n      END\n ~ t.f:2: 99 NotBuilt I=(1)\n
+      PROGRAM T\n      I = (.TRUE.)\n      END\n ~ t.f:2: 99 NotBuilt I=(.TRUE.)\n
 
 C     FIRST\n\
       PROGRAM T\n\
       I = 1\n\
 *     NEXT\n\
-      J = I * 2\n\
+      J = K(I) * 2\n\
 \n\
       STOP\n\
       END\n ~ \
-t.f:5: 99 NotBuilt J=I*2\n
+t.f:5: 99 NotBuilt J=K(I)*2\n
       PROGRAM T\n      I = 1 +\n      END\n ~ t.f:2: 7 NotAStatement I=1+\n
 
 # a missing side
@@ -498,4 +624,51 @@ t.f:5: 6 BadCharacter 7\n
       I = 1\n\
 \100{     1+1\n}      END\n ~ \
 t.f:102: 5 TooManyContinuations 6\n
+
+# functions of another number of arguments, of another type, and others; operators that give no integers
+      PROGRAM T\n\
+      I = MOD(7, 4, 2)\n\
+C     ONE\n\
+      I = MAX(J)\n\
+      I = KUBE(J)*2\n\
+*\n\
+      I = (J .AND. K)\n\
+      I = -(J*2)\n\
+      I = ABS(J, K)\n\
+      I = ABS()\n\
+      I = MAX(J, A)\n\
+      I = ICHAR('A')\n\
+      K(1) = 2\n\
+      I = MOD(J, MOD(K))\n\
+      I = J .LT. K\n\
+      END\n ~ \
+t.f:2: 99 NotBuilt I=MOD(7,4,2)\n\
+t.f:4: 99 NotBuilt I=MAX(J)\n\
+t.f:5: 99 NotBuilt I=KUBE(J)*2\n\
+t.f:7: 99 NotBuilt I=(J.AND.K)\n\
+t.f:9: 99 NotBuilt I=ABS(J,K)\n\
+t.f:10: 99 NotBuilt I=ABS()\n\
+t.f:11: 99 NotBuilt I=MAX(J,A)\n\
+t.f:12: 99 NotBuilt I=ICHAR('A')\n\
+t.f:13: 99 NotBuilt K(1)=2\n\
+t.f:14: 99 NotBuilt I=MOD(J,MOD(\n\
+t.f:15: 99 NotBuilt I=J.LT.K\n
+
+# a variable of the name of a function that is called, and not before what isn't converted yet
+      PROGRAM T\n      MOD = 7\n      I = MOD(MOD, 2)\n      END\n ~ t.f:0: 99 NotBuilt 0\n
+      PROGRAM T\n\
+      I = MAX(1, 2)\n\
+C\n\
+      J = I*MAX\n\
+      END\n ~ \
+t.f:0: 99 NotBuilt 0\n
+      PROGRAM T\n      MOD = MOD(7, 2)\n      STOP 1\n      END\n ~ t.f:3: 99 NotBuilt STOP1\n
+
+# a variable of the program's name, in parentheses and as an argument
+      PROGRAM MAX\n\
+      I = (MAX)*2\n\
+      I = ABS(MAX)\n\
+      END\n ~ \
+t.f:2: 99 NotBuilt I=(MAX)*2\n\
+t.f:3: 99 NotBuilt I=ABS(MAX)\n
 ";

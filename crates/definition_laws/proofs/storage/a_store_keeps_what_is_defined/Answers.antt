@@ -1,8 +1,11 @@
-use Rattle.definition_laws.proofs.StorageLemmas.{defined, others, length_kept, start_undefined, nothing}
+use Rattle.definition_laws.proofs.StorageLemmas.{defined, not_read, others, length_kept, start_undefined, nothing}
 use Rattle.definition_laws.proofs.storage.a_store_keeps_what_is_defined.Goals as goal
 
 pub returns-clause-defined : goal.returns-clause-defined
 returns-clause-defined c = defined
+
+pub returns-clause-other_types : goal.returns-clause-other_types
+returns-clause-other_types c = not_read
 
 pub returns-clause-others : goal.returns-clause-others
 returns-clause-others c = others

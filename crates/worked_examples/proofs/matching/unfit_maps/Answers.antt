@@ -1,7 +1,8 @@
 use Rattle.std.proofs.Common.{◌≡◌, zero, suc, Contains, sym, ap, ◌∙◌, ℕ, List, [], ◌∷◌, codes, None, Some, refl, arith}
 use Rattle.std.specs.Prelude.{slice_index}
 use Rattle.std.proofs.lemmas.List.Elements.{Contains-get_or}
-use Rattle.program77.specs.Layout.{integers, layout_of}
+use Rattle.text_base.specs.Values.{integers}
+use Rattle.program77.specs.Layout.{layout_of}
 use Rattle.project_set.specs.MapText.{MapLine}
 use Rattle.tree90.specs.Tree.{Declared, integer_object}
 use Rattle.tree90.specs.Proper.{declared_name}

@@ -1,4 +1,4 @@
-use Rattle.worked_examples.specs.Sources.{whole_source, short_source, undefined_source, overflow_source}
+use Rattle.worked_examples.specs.Sources.{whole_source, short_source, undefined_source, overflow_source, product_source}
 use Rattle.worked_examples.proofs.LazyReading.{lazily_refused}
 use Rattle.worked_examples.proofs.Opened.{opened}
 use Rattle.worked_examples.proofs.reading.accepted_sources.Goals as goal
@@ -10,4 +10,5 @@ returns c = record {
   short = lazily_refused short_source;
   undefined = lazily_refused undefined_source;
   overflow = lazily_refused overflow_source;
+  product = lazily_refused product_source;
 }

@@ -4,4 +4,4 @@ use Rattle.worked_examples.proofs.writing.whole_texts.Goals as goal
 
 pub returns : goal.returns
 unfolding opened
-returns c = record { text = refl; map = refl; read_only = refl; report = refl }
+returns c = record { text = refl; product = refl; map = refl; read_only = refl; report = refl }

@@ -1,0 +1,9 @@
+pub mod Ranges
+pub mod Powers
+pub mod Places
+pub mod Blanks
+pub mod Several
+pub mod Rows
+pub mod FitTypes
+pub mod Divisions
+pub mod IntegerKinds
