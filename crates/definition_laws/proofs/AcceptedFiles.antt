@@ -11,7 +11,7 @@ use Rattle.std.proofs.lemmas.List.Folds.{list_all-append}
 use Rattle.text_base.specs.Cards.{Card, cards}
 use Rattle.text_base.specs.LineRefusals.{too_large, passes_sum, line_refusals, card_refusals, files_refusals}
 use Rattle.text_base.specs.Lines.{lines}
-use Rattle.text_base.specs.Names.{action_variables}
+use Rattle.text_base.specs.Names.{action_variables, action_functions}
 use Rattle.text_base.specs.Trees.{name, Action, assign, stop}
 use Rattle.text_base.specs.declared.refusal.Place.{Place}
 use Rattle.text_base.specs.declared.refusal.Refusal.{Refusal}
@@ -19,7 +19,7 @@ use Rattle.program77.specs.Built.{SpellsBuilt, Built, program, action, continue,
 use Rattle.program77.specs.Source.{IsSource}
 use Rattle.program77.specs.Tree as tree
 use Rattle.program77.specs.Tree.{Code, done, item, SourceUnit, SourceProgram}
-use Rattle.program77.specs.Typing.{code_variables, is_variable, is_typed}
+use Rattle.program77.specs.Typing.{code_variables, code_functions, is_local, is_variable, is_typed}
 use Rattle.program77.specs.SourceReading.{read_card, read_of, file_statements, Ended, ended_at, join_code, read_code, unit_with, header_name, read_unit, typed_unit, unless_refused, read_source}
 use Rattle.parse77.specs.Statement.{deck_refusals}
 use Rattle.project_set.specs.Refusals.{program_name, is_built_action, is_short, is_built_statement, is_built_as, is_built_card, not_built_at, unbuilt_refusals, unit_refusals, first_of, refusals}
@@ -66,17 +66,20 @@ abbrev code_built : List ℕ → Code → Bool
 code_built x done = true
 code_built x (item label here s rest) = stmt_built x s && code_built x rest
 
--- the names of a list are integer variables, and its statements are converted
-built_code : (x : List ℕ) (code : Code) → (code_built x code ≡ true) ↔ ((list_all (is_variable x) (code_variables code) ≡ true) × AreConverted code)
-built_code x done = (λ e. (refl, tt), λ h. refl)
+-- the variables of a list are integer variables, no function of it has the program's name, and its statements are converted
+built_code : (x : List ℕ) (code : Code) → (code_built x code ≡ true) ↔ ((list_all (is_variable x) (code_variables code) ≡ true) × (list_all (is_local x) (code_functions code) ≡ true) × AreConverted code)
+built_code x done = (λ e. (refl, refl, tt), λ h. refl)
 built_code x (item label here tree.continue rest) = built_code x rest
 built_code x (item label here (tree.simple a) rest) =
     let more = built_code x rest in
     let names = both (list_all (is_variable x) (action_variables a)) (list_all (is_variable x) (code_variables rest)) in
-    rw (list_all-append (is_variable x) (action_variables a) (code_variables rest)) (
-      λ e. let p = and_parts _ _ e in let q = and_parts _ _ p.0 in let r = and_parts _ _ q.1 in let m = more.0 p.1 in (names.1 (r.0, m.0), ((converted a).0 (q.0, r.1), m.1)),
-      λ h. let n = names.0 h.0 in let k = (converted a).1 h.1.0 in and_from _ _ (and_from _ _ k.0 (and_from _ _ n.0 k.1)) (more.1 (n.1, h.1.1)),
-    )
+    let functions = both (list_all (is_local x) (action_functions a)) (list_all (is_local x) (code_functions rest)) in
+    rw (list_all-append (is_variable x) (action_variables a) (code_variables rest)) (rw (list_all-append (is_local x) (action_functions a) (code_functions rest)) (
+      λ e. let p = and_parts _ _ e in let q = and_parts _ _ p.0 in let r = and_parts _ _ q.1 in let s = and_parts _ _ r.1 in let m = more.0 p.1 in
+          (names.1 (r.0, m.0), functions.1 (s.0, m.1), ((converted a).0 (q.0, s.1), m.2)),
+      λ h. let n = names.0 h.0 in let f = functions.0 h.1 in let k = (converted a).1 h.2.0 in
+          and_from _ _ (and_from _ _ k.0 (and_from _ _ n.0 (and_from _ _ f.0 k.1))) (more.1 (n.1, f.1, h.2.1)),
+    ))
 
 -- one statement more
 joined : (x : List ℕ) (here : Place) (s : tree.Stmt) (b : Bool) (o : Option Ended) (r : Ended) → option_map (λ (q : Ended). (item 0 here s q.0, q.1)) o ≡ Some r
@@ -209,10 +212,10 @@ files_are_sources found only bytes = (
       let u = p.1.1.1.0 in
       let is = typed_read (read_unit (file_statements 0 bytes)) u p.1.1.1.1 in
       let built = (built_code u.name u.code).0 (sym (unit_reads (cards 0 bytes) u is.0) ∙ p.1.1.0) in
-      (program_of u, found 0 bytes (program_of u) (source_read bytes u p.0 p.1.0 is.0 is.1), All-cons (λ unit. AreConverted unit.code) u [] built.1 (All-nil (λ unit. AreConverted unit.code))),
+      (program_of u, found 0 bytes (program_of u) (source_read bytes u p.0 p.1.0 is.0 is.1), All-cons (λ unit. AreConverted unit.code) u [] built.2 (All-nil (λ unit. AreConverted unit.code))),
   λ h. let v = source_unit bytes h.0 h.1 (only 0 bytes h.0 h.1) in
       let u = v.unit in
-      let built = (built_code u.name u.code).1 ((and_parts _ _ v.typed).0, subst IsBuiltProgram v.whole h.2 0 u (omega arith)) in
+      let built = (built_code u.name u.code).1 ((and_parts _ _ v.typed).0, (and_parts _ _ (and_parts _ _ v.typed).1).0, subst IsBuiltProgram v.whole h.2 0 u (omega arith)) in
       let typed : option_and_then typed_unit (read_unit (file_statements 0 bytes)) ≡ Some u = ap (option_and_then typed_unit) v.read ∙ ap (λ b. if b then Some u else None) v.typed in
       (phases bytes).1 (h.1.accepted, (v.deck, (unit_reads (cards 0 bytes) u v.read ∙ built, (u, typed)))),
 )

@@ -209,7 +209,7 @@ module _ (p : SourceProgram) where
   all_fine u (item label here (simple a) rest) typed = (λ t. (and_parts _ _ (typed t)).0, all_fine u rest (λ t. (and_parts _ _ (typed t)).1))
 
   fine_unit : (u : SourceUnit) → AllFine (tagged layout 0) flat.no_function source_stops (IsGoodFor u) (IsFine u) (kept u) u.code
-  fine_unit u = all_fine u u.code (λ typed. (and_parts _ _ typed).1)
+  fine_unit u = all_fine u u.code (λ typed. (and_parts _ _ (and_parts _ _ typed).1).1)
 
   start : (u : SourceUnit) → IsGoodFor u (start77 layout)
   start u = (refl, λ typed. All-weaker (λ (h : Held). h ≡ undefined) IsPlain (λ h is. inl is) (start77 layout).numbers (start_undefined layout))

@@ -9,7 +9,7 @@ use Rattle.program77.specs.Tree.{SourceProgram}
 use Rattle.program77.specs.Typing.{is_typed}
 
 -- The bytes of the file are the source of the program: none of its lines is refused, and its cards are one unit, which is
--- converted, and whose names are those of integer variables.
+-- converted, and each part of which has the type that its place needs.
 pub record IsSource (file : ℕ) (bytes : List ℕ) (p : SourceProgram) : Type 0 where
   pub unit : ProgramUnit
   pub accepted : card_refusals file bytes ≡ []

@@ -38,9 +38,14 @@ variables unit = first_seen (code_variables unit.code)
 abbrev pub is_integer_name : List ℕ → Bool
 is_integer_name x = nat_le 73 (slice_index x 0) && nat_le (slice_index x 0) 78
 
--- in a unit with this name, a name is that of an integer variable: it isn't the unit's own (X3.9 section 18.1)
+-- a name that isn't the unit's own, as those of its variables and of the intrinsic functions that it refers to are (X3.9
+-- section 14.1)
+abbrev pub is_local : List ℕ → List ℕ → Bool
+is_local unit x = not (bytes_eq unit x)
+
+-- in a unit with this name, a name is that of an integer variable
 abbrev pub is_variable : List ℕ → List ℕ → Bool
-is_variable unit x = is_integer_name x && not (bytes_eq unit x)
+is_variable unit x = is_integer_name x && is_local unit x
 
 -- the type of a name: all variables are integers
 abbrev pub kind_in : SourceUnit → List ℕ → Option Kind
@@ -55,6 +60,7 @@ is_typed_code kinds done = true
 is_typed_code kinds (item label here s rest) = is_typed_stmt kinds s && is_typed_code kinds rest
 
 -- Each variable of the unit is one of integers, and each part of each statement has the type that its place needs. A name that
--- stands before parentheses is that of an intrinsic function, and no variable of the unit has it.
+-- stands before parentheses is that of an intrinsic function, and neither the unit's own nor that of a variable of it.
 abbrev pub is_typed : SourceUnit → Bool
-is_typed unit = list_all (is_variable unit.name) (code_variables unit.code) && is_typed_code (kind_in unit) unit.code
+is_typed unit =
+    list_all (is_variable unit.name) (code_variables unit.code) && (list_all (is_local unit.name) (code_functions unit.code) && is_typed_code (kind_in unit) unit.code)

@@ -10,12 +10,13 @@ use Rattle.text_base.specs.Lines.{cut}
 use Rattle.text_base.specs.Cards.{Comment, cards, comments}
 use Rattle.text_base.specs.Chars.{is_name}
 use Rattle.text_base.specs.ExpressionKinds.{is_typed_action}
+use Rattle.text_base.specs.Names.{action_functions}
 use Rattle.text_base.specs.Values.{Kind, integers}
 use Rattle.program77.specs.Plain.{source_unit}
 use Rattle.program77.specs.SourceReading.{read_of, read_unit}
 use Rattle.program77.specs.Tree.{simple, continue, Code, done, item, SourceUnit, SourceProgram}
 use Rattle.program77.specs.Typing as source
-use Rattle.program77.specs.Typing.{variables, is_integer_name, is_variable, is_typed}
+use Rattle.program77.specs.Typing.{variables, is_integer_name, is_local, is_variable, is_typed}
 use Rattle.text_base.specs.Remarks.{Remark}
 use Rattle.tree90.specs.Tree.{integer_object}
 use Rattle.tree90.specs.Printed.{printed}
@@ -45,11 +46,16 @@ declared_names : (xs : List (List ℕ)) → map declared_name (map integer_objec
 declared_names [] = refl
 declared_names (x ∷ xs) = ap (λ ys. x ∷ ys) (declared_names xs)
 
+-- what a unit is that is typed
+typed_parts : (u : SourceUnit) → is_typed u ≡ true
+    → (list_all (is_variable u.name) (source.code_variables u.code) ≡ true) × ((list_all (is_local u.name) (source.code_functions u.code) && source.is_typed_code (source.kind_in u) u.code) ≡ true)
+typed_parts u typed = and_parts (list_all (is_variable u.name) (source.code_variables u.code)) (list_all (is_local u.name) (source.code_functions u.code) && source.is_typed_code (source.kind_in u) u.code) typed
+
 -- a unit's name differs from its variables
 name_is_apart : (u : SourceUnit) → is_typed u ≡ true → not (is_among (variables u) u.name) ≡ true
 name_is_apart u typed =
     apart_from_all u.name (variables u) (all_first (λ y. not (bytes_eq u.name y)) (source.code_variables u.code)
-    (all_implied (is_variable u.name) (λ y. not (bytes_eq u.name y)) (λ y e. (and_parts (is_integer_name y) (not (bytes_eq u.name y)) e).1) (source.code_variables u.code) (and_parts (list_all (is_variable u.name) (source.code_variables u.code)) _ typed).0))
+    (all_implied (is_variable u.name) (λ y. not (bytes_eq u.name y)) (λ y e. (and_parts (is_integer_name y) (not (bytes_eq u.name y)) e).1) (source.code_variables u.code) (typed_parts u typed).0))
 
 -- a unit's name and its variables are distinct
 names_are_distinct : (u : SourceUnit) → is_typed u ≡ true → are_distinct (u.name ∷ map declared_name (map integer_object (variables u))) ≡ true
@@ -77,7 +83,19 @@ unit_is_typed : (cs : List Comment) (first : ℕ) (u : SourceUnit) → is_typed 
 unit_is_typed cs first u typed =
     ap (λ kinds. p.is_typed_code kinds (written_unit cs first u).code) (λ i x. same_kinds u x i)
     ∙ written_type (source.kind_in u) (comments_from cs (first + 2)) (first + 1) [] u.code
-    ∙ (and_parts (list_all (is_variable u.name) (source.code_variables u.code)) (source.is_typed_code (source.kind_in u) u.code) typed).1
+    ∙ (and_parts (list_all (is_local u.name) (source.code_functions u.code)) (source.is_typed_code (source.kind_in u) u.code) (typed_parts u typed).1).1
+
+-- the functions of what is written for a list are those of the list
+written_functions : (cs : List Comment) (k : ℕ) (left : List Remark) (code : Code) → p.code_functions (written_list cs k left code).0 ≡ source.code_functions code
+written_functions cs k left done = refl
+written_functions cs k left (item label here (simple a) rest) = ap (λ names. action_functions a ++ names) (written_functions cs (k + 1) [] rest)
+written_functions cs k left (item label here continue rest) = written_functions cs (k + 1) _ rest
+
+-- none of them has the unit's name
+functions_are_local : (cs : List Comment) (first : ℕ) (u : SourceUnit) → is_typed u ≡ true → list_all (is_local u.name) (p.code_functions (written_unit cs first u).code) ≡ true
+functions_are_local cs first u typed =
+    ap (list_all (is_local u.name)) (written_functions (comments_from cs (first + 2)) (first + 1) [] u.code)
+    ∙ (and_parts (list_all (is_local u.name) (source.code_functions u.code)) (source.is_typed_code (source.kind_in u) u.code) (typed_parts u typed).1).0
 
 -- declared objects that are made of names have names
 declared_are_named : (xs : List (List ℕ)) → list_all is_name xs ≡ true → list_all (λ d. is_name (declared_name d)) (map integer_object xs) ≡ true
@@ -122,6 +140,7 @@ program_is_proper cs u short s typed = record {
   writable = program_is_writable cs u short s;
   distinct = names_are_distinct u typed;
   typed = unit_is_typed cs 0 u typed;
+  local = functions_are_local cs 0 u typed;
 }
 
 -- what is written for a source that is converted is proper

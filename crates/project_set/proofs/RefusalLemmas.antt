@@ -15,12 +15,12 @@ use Rattle.text_base.specs.declared.refusal.Refusal.{Refusal}
 use Rattle.program77.specs.Tree as code
 use Rattle.program77.specs.Tree.{Code, done, item, simple, SourceUnit}
 use Rattle.program77.specs.Built.{Built, program, action, continue, end_of_unit}
-use Rattle.text_base.specs.Names.{action_variables}
-use Rattle.program77.specs.Typing.{code_variables, is_variable}
+use Rattle.text_base.specs.Names.{action_variables, action_functions}
+use Rattle.program77.specs.Typing.{code_variables, code_functions, is_local, is_variable}
 use Rattle.program77.specs.SourceReading.{ReadCard, read_card, read_of, file_statements, Ended, join_code, read_code, unit_with, read_unit, typed_unit}
 use Rattle.program77.specs.SourceReading.{header_name}
 use Rattle.parse77.specs.Statement.{deck_refusals}
-use Rattle.project_set.specs.Refusals.{program_name, is_free_name, is_built_action, is_short, is_built_statement, is_built_as, is_built_card, not_built_at, unbuilt_refusals, unit_refusals, first_of, source_refusals, refusals}
+use Rattle.project_set.specs.Refusals.{program_name, is_free_name, is_free_function, is_built_action, is_short, is_built_statement, is_built_as, is_built_card, not_built_at, unbuilt_refusals, unit_refusals, first_of, source_refusals, refusals}
 
 -- ---- phases
 
@@ -90,13 +90,15 @@ all_built unit (card ∷ cs) e = go (is_built_card unit card) refl e (λ f. all_
 pub record IsBuiltAction (unit : Option (List ℕ)) (a : Action) : Type 0 where
   pub built : is_built_action a ≡ true
   pub free : list_all (is_free_name unit) (action_variables a) ≡ true
+  pub functions : list_all (is_free_function unit) (action_functions a) ≡ true
   pub short : is_short a ≡ true
 
 pub built_action : (unit : Option (List ℕ)) (a : Action) → is_built_statement unit (action a) ≡ true → IsBuiltAction unit a
 built_action unit a e =
-    let first = and_parts (is_built_action a) (list_all (is_free_name unit) (action_variables a) && is_short a) e in
-    let second = and_parts (list_all (is_free_name unit) (action_variables a)) (is_short a) first.1 in
-    record { built = first.0; free = second.0; short = second.1 }
+    let first = and_parts (is_built_action a) (list_all (is_free_name unit) (action_variables a) && (list_all (is_free_function unit) (action_functions a) && is_short a)) e in
+    let second = and_parts (list_all (is_free_name unit) (action_variables a)) (list_all (is_free_function unit) (action_functions a) && is_short a) first.1 in
+    let third = and_parts (list_all (is_free_function unit) (action_functions a)) (is_short a) second.1 in
+    record { built = first.0; free = second.0; functions = third.0; short = third.1 }
 
 -- ---- the program
 
@@ -106,9 +108,11 @@ are_built_actions done = true
 are_built_actions (item label here (simple a) rest) = is_built_action a && are_built_actions rest
 are_built_actions (item label here code.continue rest) = are_built_actions rest
 
--- the variables of a list are integer variables of a program, and its statements can be converted
+-- the variables of a list are integer variables of a program, its functions may have their names, and its statements can be
+-- converted
 pub record AreBuilt (unit : List ℕ) (code : Code) : Type 0 where
   pub variables : list_all (is_variable unit) (code_variables code) ≡ true
+  pub functions : list_all (is_local unit) (code_functions code) ≡ true
   pub actions : are_built_actions code ≡ true
 
 abbrev IsBuiltList : List ℕ → Option Ended → Type 0
@@ -123,11 +127,12 @@ built_join unit here (action a) rest (Some r) built typed =
     let b = built_action (Some unit) a built in
     record {
       variables = list_all-append (is_variable unit) (action_variables a) (code_variables r.0) ∙ and_from _ _ b.free typed.variables;
+      functions = list_all-append (is_local unit) (action_functions a) (code_functions r.0) ∙ and_from _ _ b.functions typed.functions;
       actions = and_from (is_built_action a) (are_built_actions r.0) b.built typed.actions;
     }
 built_join unit here continue rest None built typed = tt
-built_join unit here continue rest (Some r) built typed = record { variables = typed.variables; actions = typed.actions }
-built_join unit here end_of_unit [] more built typed = record { variables = refl; actions = refl }
+built_join unit here continue rest (Some r) built typed = record { variables = typed.variables; functions = typed.functions; actions = typed.actions }
+built_join unit here end_of_unit [] more built typed = record { variables = refl; functions = refl; actions = refl }
 built_join unit here end_of_unit (next ∷ rest) more built typed = tt
 
 list_is_built : (unit : List ℕ) (cs : List Card) → list_all (is_built_card (Some unit)) cs ≡ true → IsBuiltList unit (read_code (map read_of cs))

@@ -13,7 +13,7 @@ use Rattle.text_base.specs.Operators.{unary_op, binary_op, intrinsic}
 use Rattle.text_base.specs.Trees.{Expr, int, bool, text, name, call, substring, unary, binary, paren, Exprs, none, more, Action, assign, stop}
 use Rattle.text_base.specs.Values.{Kind, integers, logicals, characters}
 use Rattle.program77.specs.Tree.{simple, continue, Code, done, item, SourceUnit}
-use Rattle.program77.specs.Typing.{code_variables, code_functions, first_seen, variables, is_variable, kind_in, is_typed_code, is_typed}
+use Rattle.program77.specs.Typing.{code_variables, code_functions, first_seen, variables, is_local, kind_in, is_typed_code, is_typed}
 use Rattle.project_set.specs.Refusals.{is_sign, is_arithmetic, is_integer_function, exprs_count, is_built, are_built, is_built_action}
 use Rattle.project_set.specs.Variables.{is_apart}
 use Rattle.project_set.proofs.NameLemmas.{any_first}
@@ -145,6 +145,7 @@ module _ (u : SourceUnit) where
   -- a unit whose statements can be converted is typed where no variable has the name of a function
   pub unit_type : AreBuilt u.name u.code → is_typed u ≡ list_all (is_apart (variables u)) (code_functions u.code)
   unit_type b =
-      ap (λ c. c && is_typed_code (kind_in u) u.code) b.variables
+      ap (λ c. c && (list_all (is_local u.name) (code_functions u.code) && is_typed_code (kind_in u) u.code)) b.variables
+      ∙ ap (λ c. c && is_typed_code (kind_in u) u.code) b.functions
       ∙ code_type (kind_in u) u.code b.actions (sym (ap (λ p. list_all p (code_variables u.code)) (λ i x. integer_there x i)) ∙ all_are_there (code_variables u.code))
       ∙ ap (λ p. list_all p (code_functions u.code)) (λ i f. apart_there f i)

@@ -6,7 +6,7 @@ use Rattle.text_base.specs.Cards.{Card, cards}
 use Rattle.text_base.specs.Kept.{read_characters}
 use Rattle.text_base.specs.LineRefusals.{files_refusals}
 use Rattle.text_base.specs.ExpressionKinds.{are_same}
-use Rattle.text_base.specs.Names.{expr_variables, action_variables}
+use Rattle.text_base.specs.Names.{expr_variables, expr_functions, action_variables, action_functions}
 use Rattle.text_base.specs.Operations.{outcome_kind}
 use Rattle.text_base.specs.Operators.{unary_op, binary_op, intrinsic}
 use Rattle.text_base.specs.Refusing.{not_built}
@@ -17,7 +17,7 @@ use Rattle.text_base.specs.declared.refusal.Refusal.{Refusal}
 use Rattle.text_base.specs.declared.refusal.Cause.TheVariants.{NotBuilt}
 use Rattle.program77.specs.Tree.{SourceUnit}
 use Rattle.program77.specs.Built.{Built, program, action, continue, end_of_unit}
-use Rattle.program77.specs.Typing.{is_integer_name, is_variable}
+use Rattle.program77.specs.Typing.{is_integer_name, is_local, is_variable}
 use Rattle.program77.specs.SourceReading.{header_name}
 use Rattle.program77.specs.SourceReading.{ReadCard, read_card, file_statements, read_of, read_unit, typed_unit}
 use Rattle.parse77.specs.Statement.{deck_refusals}
@@ -70,9 +70,14 @@ abbrev mutual
   are_built none = true
   are_built (more a rest) = is_built a && are_built rest
 
--- an expression that is converted, whose variables pass a test
-abbrev pub is_free : (List ℕ → Bool) → Expr → Bool
-is_free test e = is_built e && list_all test (expr_variables e)
+-- a name that a function may have: it isn't the program's name
+abbrev pub is_free_function : Option (List ℕ) → List ℕ → Bool
+is_free_function None f = true
+is_free_function (Some unit) f = is_local unit f
+
+-- an expression that is converted, whose variables and functions may have their names
+abbrev pub is_free : Option (List ℕ) → Expr → Bool
+is_free unit e = is_built e && (list_all (is_free_name unit) (expr_variables e) && list_all (is_free_function unit) (expr_functions e))
 
 -- what is assigned to is a variable, and the expression is converted
 abbrev pub is_built_action : Action → Bool
@@ -84,10 +89,11 @@ is_built_action stop = true
 abbrev pub is_short : Action → Bool
 is_short a = nat_le (length (stmt_text 1 (simple a))) (LONGEST_WRITTEN + 1)
 
--- what can be converted: the expression of a statement is such a one, its variables may be integer variables, and its line fits
+-- what can be converted: the expression of a statement is such a one, its variables may be integer variables, none of its functions
+-- has the program's name, and its line fits
 abbrev pub is_built_statement : Option (List ℕ) → Built → Bool
 is_built_statement unit (program x) = true
-is_built_statement unit (action a) = is_built_action a && (list_all (is_free_name unit) (action_variables a) && is_short a)
+is_built_statement unit (action a) = is_built_action a && (list_all (is_free_name unit) (action_variables a) && (list_all (is_free_function unit) (action_functions a) && is_short a))
 is_built_statement unit continue = true
 is_built_statement unit end_of_unit = true
 

@@ -11,7 +11,7 @@ ghost use Rattle.tree77.specs.Statements as s;
 ghost use Rattle.program77.specs.Typing.{is_integer_name, is_variable};
 ghost use Rattle.order77.specs.ReadViews.{reading_at, readings_of};
 ghost use Rattle.program77.specs.SourceReading.{header_name, read_of, reading_card};
-ghost use Rattle.project_set.specs.Refusals.{program_name, is_free_name, is_free, is_sign, is_arithmetic, is_integer_function, is_built_statement, is_built_as, not_built_at, unbuilt_refusals};
+ghost use Rattle.project_set.specs.Refusals.{program_name, is_free_name, is_free_function, is_free, is_sign, is_arithmetic, is_integer_function, is_built_statement, is_built_as, not_built_at, unbuilt_refusals};
 
 use card_reader::Card;
 use free_printer::is_short_assignment;
@@ -128,17 +128,35 @@ fn is_integer_function(name: &Name, count: usize) -> bool
     }
 }
 
-// Whether the expression can be converted, and its variables may be integer variables.
+// Whether a function may have the name, in a program of this name.
+fn is_free_function(unit: &Option<Name>, name: &Name) -> bool
+    ensures { result ≡ is_free_function unit.now name.now }
+{
+    match unit {
+        Some(unit) => unit.as_slice() != name.as_slice(),
+        None => true,
+    }
+}
+
+// Whether the name is that of an intrinsic function that gives an integer of so many integers, and not the program's.
+fn is_free_reference(unit: &Option<Name>, name: &Name, count: usize) -> bool
+    ensures { result ≡ (is_integer_function name.now count && is_free_function unit.now name.now) }
+{
+    is_integer_function(name, count) && is_free_function(unit, name)
+}
+
+// Whether the expression can be converted, and its variables and functions may have their names.
 #[cycle(free)]
 #[tactic(auto, using(expr_tree::proofs::Equations::expr_equations, crate::proofs::FreeLemmas::free_parts))]
 fn is_free_expr(unit: &Option<Name>, expr: &Expr) -> bool
-    ensures { result ≡ is_free (is_free_name unit.now) (expr_of expr.now) }
+    ensures { result ≡ is_free unit.now (expr_of expr.now) }
 {
     match expr {
         Expr::Int(_) => true,
         Expr::Name(name) => is_free_name(unit, name),
         Expr::Call(function, arguments) => {
-            is_integer_function(function, arguments.len()) && are_free(unit, arguments.as_slice())
+            is_free_reference(unit, function, arguments.len())
+                && are_free(unit, arguments.as_slice())
         }
         Expr::Unary(op, operand) => is_sign(*op) && is_free_expr(unit, operand.get()),
         Expr::Binary(op, left, right) => {
@@ -154,7 +172,7 @@ fn is_free_expr(unit: &Option<Name>, expr: &Expr) -> bool
 
 #[cycle(free)]
 fn are_free(unit: &Option<Name>, exprs: &[Expr]) -> bool
-    ensures { result ≡ list_all (λ x. is_free (is_free_name unit.now) (expr_of x)) exprs.now }
+    ensures { result ≡ list_all (λ x. is_free unit.now (expr_of x)) exprs.now }
 {
     for expr in exprs {
         if !is_free_expr(unit, expr) {

@@ -1,10 +1,11 @@
 -- Programs that can be written, and proper programs.
-use Rattle.std.specs.Prelude.{◌≡◌, ℕ, ℤ, pos, negsuc, Bool, true, false, not, ◌&&◌, ◌==◌, nat_le, IsTrue, List, [], ◌∷◌, length, map, Option, Some, None, if◌then◌else◌}
+use Rattle.std.specs.Prelude.{◌≡◌, ℕ, ℤ, pos, negsuc, Bool, true, false, not, ◌&&◌, ◌==◌, nat_le, IsTrue, List, [], ◌∷◌, ◌++◌, length, map, Option, Some, None, if◌then◌else◌}
 use Rattle.std.specs.List.{list_all, list_any}
 use Rattle.std.specs.Str.{bytes_eq}
 use Rattle.text_base.specs.Lines.{cut}
 use Rattle.text_base.specs.Trees.{Expr, int, bool, text, name, call, substring, unary, binary, paren, Exprs, none, more, Bound, absent, at, Action, assign, stop}
 use Rattle.text_base.specs.ExpressionKinds.{is_typed_action}
+use Rattle.text_base.specs.Names.{action_functions}
 use Rattle.text_base.specs.Values.{Kind, integers}
 use Rattle.text_base.specs.Remarks.{are_writable_remarks}
 use Rattle.text_base.specs.declared.limits.TheConstants.{GREATEST_INTEGER, LONGEST_WRITTEN}
@@ -111,12 +112,18 @@ abbrev pub is_typed_code : (List ℕ → Option Kind) → Code → Bool
 is_typed_code kinds done = true
 is_typed_code kinds (item remarks (simple a) rest) = is_typed_action kinds a && is_typed_code kinds rest
 
+-- the names that stand before parentheses
+abbrev pub code_functions : Code → List (List ℕ)
+code_functions done = []
+code_functions (item remarks (simple a) rest) = action_functions a ++ code_functions rest
+
 -- A proper program is one main program, whose names are declared once each and aren't its own. Each name of a statement is that
--- of a declared object, or, before parentheses, that of an intrinsic function and of no object; it fits its use in type and in
--- the number of arguments, and each part has the type that its place needs.
+-- of a declared object, or, before parentheses, that of an intrinsic function, and neither of an object nor of the program; it
+-- fits its use in type and in the number of arguments, and each part has the type that its place needs.
 pub record IsProper (p : FreeProgram) : Type 0 where
   pub unit : FreeUnit
   pub whole : p.units ≡ unit ∷ []
   pub writable : IsWritable p
   pub distinct : IsTrue (are_distinct (unit.name ∷ map declared_name unit.declared))
   pub typed : IsTrue (is_typed_code (kind_in unit.declared) unit.code)
+  pub local : IsTrue (list_all (λ f. not (bytes_eq unit.name f)) (code_functions unit.code))

@@ -4,7 +4,7 @@ use Rattle.text_base.specs.declared.operation.Op.{Op}
 use Rattle.text_base.specs.declared.operation.Op.TheVariants as op
 use Rattle.text_base.specs.declared.operation.RunFault.{RunFault}
 use Rattle.text_base.specs.declared.operation.RunFault.TheVariants.{ZeroDivide}
-use Rattle.text_base.specs.Values.{integer}
+use Rattle.text_base.specs.Values.{integer, string}
 use Rattle.text_base.specs.Operations.{Computed, computes, faults}
 use Rattle.value_ops.specs.declared.error.OpError.{OpError}
 use Rattle.value_ops.specs.declared.error.OpError.TheVariants.{Fault, Memory}
@@ -40,13 +40,12 @@ reciprocal (pos (suc zero)) is_even = computes (integer (pos 1))
 reciprocal (negsuc zero) is_even = computes (integer (if is_even then pos 1 else negsuc 0))
 reciprocal _ is_even = computes (integer (pos 0))
 
--- the operations that take memory: what they give has characters of its own
-abbrev pub takes_memory : Op → Bool
-takes_memory op.Concat = true
-takes_memory op.Char = true
+-- memory is taken for the characters that an operation gives, and for nothing else
+abbrev pub takes_memory : Computed → Bool
+takes_memory (computes (string t)) = true
 takes_memory _ = false
 
--- the fault that the table has, or want of memory where memory is taken
-abbrev pub IsFaultOf : Bool → Computed → OpError → Type 0
-IsFaultOf takes given (Fault fault) = given ≡ faults fault
-IsFaultOf takes given Memory = takes ≡ true
+-- the fault that the table has, or want of memory where it has characters
+abbrev pub IsFaultOf : Computed → OpError → Type 0
+IsFaultOf given (Fault fault) = given ≡ faults fault
+IsFaultOf given Memory = takes_memory given ≡ true

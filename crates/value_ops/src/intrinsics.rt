@@ -11,7 +11,7 @@ use text_base::Op;
 ///
 /// In: the characters of the name, in upper case.
 ///
-/// Out: the operation; `None` where no intrinsic function of integers, logicals or characters has the name.
+/// Out: the operation; `None` where the name is that of none of the 19 intrinsic functions that `Op` has.
 #[tactic(auto, unfolding(text_base::specs::Operators::intrinsic))]
 pub fn intrinsic(name: &[u8]) -> Option<Op>
     ensures { result ≡ intrinsic name.now }

@@ -3,7 +3,7 @@ ghost use Rattle.std.specs.Prelude.{◌≡◌, ◌≢◌, map, true, false, IfOk
 ghost use Rattle.text_base.specs.Values.{value_of};
 ghost use Rattle.text_base.specs.declared.operation.Op.TheVariants as op;
 ghost use Rattle.text_base.specs.Operations.{outcome, unfit, computes};
-ghost use Rattle.value_ops.specs.Answers.{answered, integer_op, logical_op, takes_memory, IsFaultOf};
+ghost use Rattle.value_ops.specs.Answers.{answered, integer_op, logical_op, IsFaultOf};
 
 use crate::error::OpError;
 use crate::integer::{BinaryInt, excess, int_op, magnitude, negative, remainder, with_sign};
@@ -26,7 +26,7 @@ use text_base::{Op, RunFault, Value};
 pub fn apply(alloc: Global, op: Op, values: &[Value]) -> Result<Value, OpError>
     requires { outcome op (map value_of values.now) ≢ unfit }
     ensures computed { IfOk result (λ v. outcome op (map value_of values.now) ≡ computes (value_of v)) }
-    ensures faulted { IfErr result (IsFaultOf (takes_memory op) (outcome op (map value_of values.now))) }
+    ensures faulted { IfErr result (IsFaultOf (outcome op (map value_of values.now))) }
 {
     match op {
         Op::Power => arithmetic(BinaryInt::Power, values),
@@ -68,7 +68,7 @@ pub fn apply(alloc: Global, op: Op, values: &[Value]) -> Result<Value, OpError>
 // An integer or a fault.
 fn whole(answer: Result<i32, RunFault>) -> Result<Value, OpError>
     ensures computed { IfOk result (λ v. answered answer ≡ computes (value_of v)) }
-    ensures faulted { IfErr result (IsFaultOf false (answered answer)) }
+    ensures faulted { IfErr result (IsFaultOf (answered answer)) }
 {
     match answer {
         Ok(z) => Ok(Value::Integer(z)),
@@ -80,7 +80,7 @@ fn whole(answer: Result<i32, RunFault>) -> Result<Value, OpError>
 fn arithmetic(op: BinaryInt, values: &[Value]) -> Result<Value, OpError>
     requires { outcome (integer_op op) (map value_of values.now) ≢ unfit }
     ensures computed { IfOk result (λ v. outcome (integer_op op) (map value_of values.now) ≡ computes (value_of v)) }
-    ensures faulted { IfErr result (IsFaultOf false (outcome (integer_op op) (map value_of values.now))) }
+    ensures faulted { IfErr result (IsFaultOf (outcome (integer_op op) (map value_of values.now))) }
 {
     let (a, b) = two_integers(values);
     whole(int_op(op, a, b))
@@ -99,7 +99,7 @@ fn logic(op: BinaryLog, values: &[Value]) -> Value
 fn left_over(values: &[Value]) -> Result<Value, OpError>
     requires { outcome op.Mod (map value_of values.now) ≢ unfit }
     ensures computed { IfOk result (λ v. outcome op.Mod (map value_of values.now) ≡ computes (value_of v)) }
-    ensures faulted { IfErr result (IsFaultOf false (outcome op.Mod (map value_of values.now))) }
+    ensures faulted { IfErr result (IsFaultOf (outcome op.Mod (map value_of values.now))) }
 {
     let (a, b) = two_integers(values);
     whole(remainder(a, b))
@@ -109,7 +109,7 @@ fn left_over(values: &[Value]) -> Result<Value, OpError>
 fn signed(values: &[Value]) -> Result<Value, OpError>
     requires { outcome op.Sign (map value_of values.now) ≢ unfit }
     ensures computed { IfOk result (λ v. outcome op.Sign (map value_of values.now) ≡ computes (value_of v)) }
-    ensures faulted { IfErr result (IsFaultOf false (outcome op.Sign (map value_of values.now))) }
+    ensures faulted { IfErr result (IsFaultOf (outcome op.Sign (map value_of values.now))) }
 {
     let (a, b) = two_integers(values);
     whole(with_sign(a, b))
@@ -119,7 +119,7 @@ fn signed(values: &[Value]) -> Result<Value, OpError>
 fn difference(values: &[Value]) -> Result<Value, OpError>
     requires { outcome op.Dim (map value_of values.now) ≢ unfit }
     ensures computed { IfOk result (λ v. outcome op.Dim (map value_of values.now) ≡ computes (value_of v)) }
-    ensures faulted { IfErr result (IsFaultOf false (outcome op.Dim (map value_of values.now))) }
+    ensures faulted { IfErr result (IsFaultOf (outcome op.Dim (map value_of values.now))) }
 {
     let (a, b) = two_integers(values);
     whole(excess(a, b))
@@ -129,7 +129,7 @@ fn difference(values: &[Value]) -> Result<Value, OpError>
 fn place(values: &[Value]) -> Result<Value, OpError>
     requires { outcome op.Index (map value_of values.now) ≢ unfit }
     ensures computed { IfOk result (λ v. outcome op.Index (map value_of values.now) ≡ computes (value_of v)) }
-    ensures faulted { IfErr result (IsFaultOf false (outcome op.Index (map value_of values.now))) }
+    ensures faulted { IfErr result (IsFaultOf (outcome op.Index (map value_of values.now))) }
 {
     let (text, part) = two_texts(values);
     whole(count(place_in(text, part)))
@@ -139,7 +139,7 @@ fn place(values: &[Value]) -> Result<Value, OpError>
 fn concatenation(alloc: Global, values: &[Value]) -> Result<Value, OpError>
     requires { outcome op.Concat (map value_of values.now) ≢ unfit }
     ensures computed { IfOk result (λ v. outcome op.Concat (map value_of values.now) ≡ computes (value_of v)) }
-    ensures faulted { IfErr result (IsFaultOf true (outcome op.Concat (map value_of values.now))) }
+    ensures faulted { IfErr result (IsFaultOf (outcome op.Concat (map value_of values.now))) }
 {
     let (a, b) = two_texts(values);
     Ok(Value::Text(joined(alloc, a, b)?))

@@ -71,7 +71,7 @@ pub fn joined(alloc: Global, a: &[u8], b: &[u8]) -> Result<Bytes, AllocError>
 /// The character that has a number, as CHAR gives it. Characters are bytes: below 0 and above 255 it faults with `CharRange`.
 pub fn character(alloc: Global, number: i32) -> Result<Value, OpError>
     ensures computed { IfOk result (λ v. character number ≡ computes (value_of v)) }
-    ensures faulted { IfErr result (IsFaultOf true (character number)) }
+    ensures faulted { IfErr result (IsFaultOf (character number)) }
 {
     match u8::try_from(number) {
         Ok(byte) => Ok(Value::Text(Bytes::from_slice(alloc, &[byte])?)),

@@ -73,6 +73,10 @@ whole units = record { units = units; tail = [] }
 abbrev j_is_i : Code
 j_is_i = assigned [] (codes "J") (variable (codes "I")) done
 
+-- the unit with another name
+abbrev named : List ℕ → FreeUnit → FreeUnit
+named x u = record u { name = x }
+
 -- none is proper
 abbrev pub improper : List FreeProgram
 improper =
@@ -88,6 +92,8 @@ improper =
     -- a logical value of an integer variable, and an intrinsic function whose name is declared
     ∷ whole (program_t (codes "J" ∷ []) (assigned [] (codes "J") (bool true) done) ∷ [])
     ∷ whole (program_t (codes "J" ∷ codes "ABS" ∷ []) (assigned [] (codes "J") (call (codes "ABS") (more (number 1) none)) done) ∷ [])
+    -- an intrinsic function that has the program's name
+    ∷ whole (named (codes "ABS") (program_t (codes "J" ∷ []) (assigned [] (codes "J") (call (codes "ABS") (more (number 1) none)) done)) ∷ [])
     ∷ []
 
 abbrev pub IsImproper : FreeProgram → Type 0

@@ -68,6 +68,8 @@ refused_sources =
     -- an intrinsic function; a function that is none, one of too few arguments, and one of characters
     ∷ (program_with (codes "      J = MAX(I, 2, -3)\n"), [])
     ∷ (program_with (codes "      J = F(1)\n" ++ codes "      J = MOD(1)\n" ++ codes "      J = LEN('A')\n"), at 2 NotBuilt (codes "J=F(1)") ∷ at 3 NotBuilt (codes "J=MOD(1)") ∷ at 4 NotBuilt (codes "J=LEN('A')") ∷ [])
+    -- a function that has the program's name
+    ∷ (codes "      PROGRAM MOD\n" ++ codes "      J = 1 + MOD(1, 2)\n" ++ codes "      END\n", at 2 NotBuilt (codes "J=1+MOD(1,2)") ∷ [])
     -- integer variables begin with I to N
     ∷ (program_with (codes "      H = 1\n" ++ codes "      I = 1\n" ++ codes "      N = 1\n" ++ codes "      O = 1\n"), at 2 NotBuilt (codes "H=1") ∷ at 5 NotBuilt (codes "O=1") ∷ [])
     -- the first 12 characters are shown; each statement has its refusal

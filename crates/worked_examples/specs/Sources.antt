@@ -74,6 +74,7 @@ no_sources =
     ∷ (codes "      PROGRAM T\n" ++ codes "      A = 1\n" ++ codes "      END\n")
     ∷ (codes "      PROGRAM I\n" ++ codes "      I = 1\n" ++ codes "      END\n")
     ∷ (codes "      PROGRAM T\n" ++ codes "      MOD = 1\n" ++ codes "      J = MOD(1, 2)\n" ++ codes "      END\n")
+    ∷ (codes "      PROGRAM MOD\n" ++ codes "      J = MOD(1, 2)\n" ++ codes "      END\n")
     ∷ (codes "      PROGRAM T\n" ++ codes "      I = 1 + .TRUE.\n" ++ codes "      END\n")
     ∷ (codes "      PROGRAM T\n" ++ codes "      I = 1 +\n" ++ codes "      END\n")
     ∷ (codes "      PROGRAM T\n" ++ codes " A    I = 1\n" ++ codes "      END\n")

@@ -2,6 +2,7 @@
 ghost use Rattle.std.specs.Prelude.{◌≡◌};
 ghost use Rattle.text_base.specs.Causes.{cause_number, cause_text};
 ghost use Rattle.text_base.specs.declared.limits.TheConstants.{LARGEST_FILE, LARGEST_PROJECT, LONGEST_LINE, LAST_COLUMN, MOST_CONTINUED, LONGEST_NAME, GREATEST_COUNT, GREATEST_INTEGER, DEEPEST_NESTING, LONGEST_WRITTEN, MOST_INDENTED, MOST_SHOWN};
+ghost use Rattle.tree90.specs.declared.names.TheConstants.{MOST_NAMES, LONGEST_STEM};
 ghost use Rattle.unit77.specs.declared.limits.TheConstants.{MOST_NESTED, MOST_LABELS};
 ghost use Rattle.worked_examples.specs.Causes.{causes};
 ghost use Rattle.worked_examples.specs.Tables.{Gives};
@@ -19,6 +20,8 @@ pub fn limits()
     ensures nesting { DEEPEST_NESTING ≡ 200 }
     ensures constructs { MOST_NESTED ≡ 100 }
     ensures labels { MOST_LABELS ≡ 2000 }
+    ensures names { MOST_NAMES ≡ 999999999 }
+    ensures stem { LONGEST_STEM ≡ 21 }
     ensures written { LONGEST_WRITTEN ≡ 132 }
     ensures indented { MOST_INDENTED ≡ 60 }
     ensures shown { MOST_SHOWN ≡ 12 }

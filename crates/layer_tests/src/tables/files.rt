@@ -656,6 +656,9 @@ t.f:15: 99 NotBuilt I=J.LT.K\n
 
 # a variable of the name of a function that is called, and not before what isn't converted yet
       PROGRAM T\n      MOD = 7\n      I = MOD(MOD, 2)\n      END\n ~ t.f:0: 99 NotBuilt 0\n
+
+# a function that has the program's name
+      PROGRAM MOD\n      I = 1\n      J = I - MOD(I, 2)\n      END\n ~ t.f:3: 99 NotBuilt J=I-MOD(I,2)\n
       PROGRAM T\n\
       I = MAX(1, 2)\n\
 C\n\
