@@ -32,6 +32,8 @@ mod tokens;
 #[cfg(test)]
 mod top;
 #[cfg(test)]
+mod typing;
+#[cfg(test)]
 mod unit_limits;
 #[cfg(test)]
 mod units;

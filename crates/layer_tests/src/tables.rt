@@ -10,4 +10,5 @@ pub mod operations;
 pub mod printed;
 pub mod statements;
 pub mod tokens;
+pub mod typing;
 pub mod units;

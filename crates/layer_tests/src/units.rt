@@ -202,7 +202,7 @@ fn write_units(alloc: Global, units: &[Unit77], out: &mut Bytes) -> Written {
 // Refusals.
 
 // Writes refusals with semicolons between them, each with its line.
-fn write_refusals(alloc: Global, refusals: &[Refusal], out: &mut Bytes) -> Written {
+pub fn write_refusals(alloc: Global, refusals: &[Refusal], out: &mut Bytes) -> Written {
     for (index, refusal) in refusals.iter().enumerate() {
         if index > 0 {
             out.extend(b"; ")?;

@@ -1,0 +1,5 @@
+pub mod FindingLemmas
+pub mod OperandLemmas
+pub mod OperandRows
+pub mod PartLemmas
+pub mod TypingLemmas

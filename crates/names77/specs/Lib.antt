@@ -1,0 +1,12 @@
+pub mod Grouped
+pub mod Text
+pub mod TextLaws
+pub mod Notes
+pub mod Roles
+pub mod RoleLaws
+pub mod Rows
+pub mod RoleTables
+pub mod Types
+pub mod Constants
+pub mod Known
+pub mod Views
