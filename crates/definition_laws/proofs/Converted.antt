@@ -111,7 +111,7 @@ module _ (p : SourceProgram) (u : SourceUnit) where
 
 pub source_faults : (cs : List Comment) (p : SourceProgram) (u : SourceUnit) → is_typed u ≡ true → IsProper (written cs (record { units = u ∷ [] })) → (n : ℕ) (here : Place) (kind : Fault)
     → run_main (layout_of p) (Some u) n ≡ fault here kind → (kind ≡ run_fault Undefined) ⊎ IsOfOperation kind
-source_faults cs p u typed is_proper n here kind f = two_ways p u u.code 0 [] n (start77 (layout_of p)) here kind (from_written (kind_in u) _ _ [] u.code is_proper.writable.units.0.code (and_parts _ _ (and_parts _ _ typed).1).1) f
+source_faults cs p u typed is_proper n here kind f = two_ways p u u.code 0 [] n (start77 (layout_of p)) here kind (from_written (kind_in u) _ _ [] u.code is_proper.writable.units.0.code typed) f
 
 -- ---- Fortran 90
 

@@ -17,11 +17,11 @@ use Rattle.text_base.specs.declared.operation.RunFault.{RunFault}
 use Rattle.text_base.specs.declared.operation.RunFault.TheVariants.{Undefined, ExpressionDefined}
 use Rattle.text_base.specs.declared.refusal.Place.{Place}
 use Rattle.program77.specs.Tree.{simple, continue, Code, done, item, SourceUnit, SourceProgram}
-use Rattle.program77.specs.Typing.{code_variables, kind_in, is_typed_code, is_typed}
+use Rattle.program77.specs.Typing.{code_variables, first_seen, variables, kind_in, is_typed_code, is_typed}
 use Rattle.program77.specs.Layout.{Layout, Entity, layout_of, entity_named}
 use Rattle.program77.specs.Meaning.{Store, lines, Open, from, proceed, tagged, read_at, write_at, start77, run_main, run77}
 use Rattle.program77.specs.Meaning as flat
-use Rattle.definition_laws.specs.Storage.{IsVariableOf, place_of}
+use Rattle.definition_laws.specs.Storage.{AreNamed, IsVariableOf, place_of}
 use Rattle.definition_laws.specs.Statements.{actions_of}
 use Rattle.value_ops.specs.Laws.{IsOperationFault}
 use Rattle.definition_laws.specs.Faults.{HasUndefined, HasFault, FaultsBy, HoldsNoInteger, ReadsUndefined, FaultsWith, IsPlain, IsStoreOf}
@@ -31,7 +31,7 @@ use Rattle.definition_laws.proofs.Budgets.{source_stops}
 use Rattle.definition_laws.proofs.TypedActions.{gives_integer}
 use Rattle.definition_laws.proofs.Places.{in_the_list}
 use Rattle.definition_laws.proofs.NameOrder.{only_of, seen}
-use Rattle.definition_laws.proofs.StorageLemmas.{one_entity, within, length_kept, start_undefined}
+use Rattle.definition_laws.proofs.StorageLemmas.{is_found, within, length_kept, start_undefined}
 
 -- the names of a statement are among those of its list
 named : (c : Code) (here : Place) (d x : Expr) (y : List ℕ) → Contains (actions_of c) (here, assign d x) → Contains (expr_variables x) y → Contains (code_variables c) y
@@ -174,7 +174,7 @@ module _ (p : SourceProgram) where
       go (Some f) e = held_integer (get_or w.numbers (place_of layout f) undefined) e
 
   pub only_integers : (u : SourceUnit) (x : List ℕ) (k : Kind) → kind_in u x ≡ Some k → k ≡ integers
-  only_integers u x k e = go (list_any (bytes_eq x) (code_variables u.code)) e
+  only_integers u x k e = go (list_any (bytes_eq x) (variables u)) e
     where
       go : (b : Bool) → (if b then Some integers else None) ≡ Some k → k ≡ integers
       go true e = sym (same_Some integers k e)
@@ -209,7 +209,7 @@ module _ (p : SourceProgram) where
   all_fine u (item label here (simple a) rest) typed = (λ t. (and_parts _ _ (typed t)).0, all_fine u rest (λ t. (and_parts _ _ (typed t)).1))
 
   fine_unit : (u : SourceUnit) → AllFine (tagged layout 0) flat.no_function source_stops (IsGoodFor u) (IsFine u) (kept u) u.code
-  fine_unit u = all_fine u u.code (λ typed. (and_parts _ _ (and_parts _ _ typed).1).1)
+  fine_unit u = all_fine u u.code (λ typed. typed)
 
   start : (u : SourceUnit) → IsGoodFor u (start77 layout)
   start u = (refl, λ typed. All-weaker (λ (h : Held). h ≡ undefined) IsPlain (λ h is. inl is) (start77 layout).numbers (start_undefined layout))
@@ -270,13 +270,16 @@ module _ (p : SourceProgram) where
   holds_none : (h : Held) → integer_in h ≡ None → HoldsNoInteger h
   holds_none h e z is = let wrong : Some (integer z) ≡ None = sym (ap integer_in is) ∙ e in absurd cc
 
-  pub undefined_read : (n : ℕ) (here : Place) → run77 p n ≡ fault here (run_fault Undefined) → FaultsBy p n here (ReadsUndefined p)
-  undefined_read n here f =
+  in_variables : (u : SourceUnit) → variables u ≡ first_seen (code_variables u.code) → (x : List ℕ) → Contains (code_variables u.code) x → Contains (variables u) x
+  in_variables u is x there = subst (λ xs. Contains xs x) (sym is) (seen (code_variables u.code) x there)
+
+  pub undefined_read : (n : ℕ) (here : Place) → AreNamed p → run77 p n ≡ fault here (run_fault Undefined) → FaultsBy p n here (ReadsUndefined p)
+  undefined_read n here names f =
       found (ReadsUndefined p) here Undefined (λ wrong. absurd cc)
       (λ main w d x at stands is cause.
       let h = ⊎_elim (λ c. c.1) (λ c. absurd (not_undefined c.0)) cause in
-      let v : IsVariableOf p 0 h.0 = record { unit = main; at = at; named = seen (code_variables main.code) h.0 (named main.code here d x h.0 stands h.1) } in
-      let e = one_entity p 0 h.0 v in
+      let v : IsVariableOf p 0 h.0 = record { unit = main; at = at; named = in_variables main (names main (in_the_list p.units 0 main at)) h.0 (named main.code here d x h.0 stands h.1) } in
+      let e = is_found p 0 h.0 v in
       let held_there = get_or w.numbers (place_of layout e.entity) undefined in
       (h.0, h.1, (e.entity, e.found, held_there, slice_get-get_or w.numbers (place_of layout e.entity) undefined (omega (arith, is.places, within p e.index e.entity e.at)), holds_none held_there (ap (read_at layout w) (sym e.found) ∙ h.2))))
       n f

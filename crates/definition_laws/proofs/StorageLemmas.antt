@@ -12,32 +12,30 @@ use Rattle.std.proofs.lemmas.Bool.{cases_order, cases_lt, and_parts, and_from, e
 use Rattle.std.proofs.lemmas.Slice.Eq.{bytes_eq-Decides}
 use Rattle.text_base.specs.Values.{Value, integer, logical, string, integers, kind_of, Held, undefined, held, integer_in}
 use Rattle.program77.specs.Tree.{SourceUnit, SourceProgram}
-use Rattle.program77.specs.Typing.{code_variables, variables}
+use Rattle.program77.specs.Typing.{code_variables, first_seen, variables}
 use Rattle.program77.specs.Layout.{Layout, Entity, variables_from, sequence_of, entity_of, layout_of, numeric_count, entity_named}
 use Rattle.program77.specs.Meaning.{Store, tagged, start77, read_at, write_at}
 use Rattle.project_set.specs.MapText.{map_line_of, map_lines}
-use Rattle.definition_laws.specs.Storage.{first_place, IsVariableOf, OneEntity, place_of, DefinedIsRead, OtherTypesAreNotRead, line_pair, pairs_of}
+use Rattle.definition_laws.specs.Storage.{AreNamed, first_place, IsVariableOf, OneEntity, place_of, DefinedIsRead, OtherTypesAreNotRead, line_pair, pairs_of}
 use Rattle.definition_laws.proofs.NameOrder.{in_order}
 use Rattle.definition_laws.proofs.Places.{at_some_place, in_the_list, mapped, mapped_at, numbered, numbered_at, appended, at_left, at_right}
 
 -- ---- names by first appearance
 
--- variables stand in the order in which they appear
-pub in_place : (u : SourceUnit) (i j : ℕ) (x y : List ℕ) → i < j → slice_get (variables u) i ≡ Some x → slice_get (variables u) j ≡ Some y
-    → first_place (code_variables u.code) x < first_place (code_variables u.code) y
-in_place u i j x y lt at_i at_j =
-    subst (λ z. first_place (code_variables u.code) z < first_place (code_variables u.code) y) (get_or_from_slice_get (variables u) i x x at_i)
-    (subst (λ z. first_place (code_variables u.code) (get_or (variables u) i x) < first_place (code_variables u.code) z) (get_or_from_slice_get (variables u) j y x at_j)
-    (in_order (code_variables u.code) i j x lt (slice_get_within (variables u) j y at_j)))
+-- names stand in the order in which they appear
+pub in_place : (xs : List (List ℕ)) (i j : ℕ) (x y : List ℕ) → i < j → slice_get (first_seen xs) i ≡ Some x → slice_get (first_seen xs) j ≡ Some y → first_place xs x < first_place xs y
+in_place xs i j x y lt at_i at_j =
+    subst (λ z. first_place xs z < first_place xs y) (get_or_from_slice_get (first_seen xs) i x x at_i)
+    (subst (λ z. first_place xs (get_or (first_seen xs) i x) < first_place xs z) (get_or_from_slice_get (first_seen xs) j y x at_j) (in_order xs i j x lt (slice_get_within (first_seen xs) j y at_j)))
 
--- a variable stands at one place
-one_name : (u : SourceUnit) (i j : ℕ) (x : List ℕ) → slice_get (variables u) i ≡ Some x → slice_get (variables u) j ≡ Some x → i ≡ j
-one_name u i j x at_i at_j = go (cases_order i j)
+-- a name stands at one place
+one_name : (xs : List (List ℕ)) (i j : ℕ) (x : List ℕ) → slice_get (first_seen xs) i ≡ Some x → slice_get (first_seen xs) j ≡ Some x → i ≡ j
+one_name xs i j x at_i at_j = go (cases_order i j)
   where
     go : (i ≡ j) ⊎ ((i < j) ⊎ (j < i)) → i ≡ j
     go (inl e) = e
-    go (inr (inl lt)) = absurd (omega (arith, in_place u i j x x lt at_i at_j))
-    go (inr (inr lt)) = absurd (omega (arith, in_place u j i x x lt at_j at_i))
+    go (inr (inl lt)) = absurd (omega (arith, in_place xs i j x x lt at_i at_j))
+    go (inr (inr lt)) = absurd (omega (arith, in_place xs j i x x lt at_j at_i))
 
 -- ---- the variables of all units
 
@@ -85,18 +83,23 @@ has_variable b (first ∷ units) (suc u) unit i x at named =
     let n : b + 1 + u ≡ b + suc u = omega arith in
     (length (of_unit b first) + rest.0, at_right (of_unit b first) (variables_from (b + 1) units) rest.0 (b + suc u, x) (rest.1 ∙ ap (λ (k : ℕ). Some (k, x)) n))
 
--- each stands once
-stands_once : (b : ℕ) (units : List SourceUnit) (i j : ℕ) (v : ℕ × List ℕ) → slice_get (variables_from b units) i ≡ Some v → slice_get (variables_from b units) j ≡ Some v → i ≡ j
-stands_once b [] i j v at_i at_j = absurd cc
-stands_once b (unit ∷ units) i j v at_i at_j =
-    go (stands_once (b + 1) units (i - length (of_unit b unit)) (j - length (of_unit b unit)) v)
+-- each stands once, where units have each name once
+abbrev NamedOnce : List SourceUnit → Type 0
+NamedOnce units = (k : ℕ) (unit : SourceUnit) → slice_get units k ≡ Some unit → variables unit ≡ first_seen (code_variables unit.code)
+
+stands_once : (b : ℕ) (units : List SourceUnit) → NamedOnce units → (i j : ℕ) (v : ℕ × List ℕ) → slice_get (variables_from b units) i ≡ Some v → slice_get (variables_from b units) j ≡ Some v → i ≡ j
+stands_once b [] once i j v at_i at_j = absurd cc
+stands_once b (unit ∷ units) once i j v at_i at_j =
+    go (stands_once (b + 1) units (λ k. once (suc k)) (i - length (of_unit b unit)) (j - length (of_unit b unit)) v)
     (appended (of_unit b unit) (variables_from (b + 1) units) i v at_i) (appended (of_unit b unit) (variables_from (b + 1) units) j v at_j)
   where
     number : (k : ℕ) → slice_get (of_unit b unit) k ≡ Some v → b ≡ v.0
     number k at = ap (λ (p : ℕ × List ℕ). p.0) (mapped (λ (x : List ℕ). (b, x)) (variables unit) k v at).is
 
-    name : (k : ℕ) → slice_get (of_unit b unit) k ≡ Some v → slice_get (variables unit) k ≡ Some v.1
-    name k at = let m = mapped (λ (x : List ℕ). (b, x)) (variables unit) k v at in m.at ∙ ap (λ (p : ℕ × List ℕ). Some p.1) m.is
+    name : (k : ℕ) → slice_get (of_unit b unit) k ≡ Some v → slice_get (first_seen (code_variables unit.code)) k ≡ Some v.1
+    name k at =
+        let m = mapped (λ (x : List ℕ). (b, x)) (variables unit) k v at in
+        ap (λ xs. slice_get xs k) (sym (once 0 unit refl)) ∙ m.at ∙ ap (λ (p : ℕ × List ℕ). Some p.1) m.is
 
     later : (k : ℕ) → Later b unit units v k → b + 1 ≤ v.0
     later k rest = (stands (b + 1) units _ v rest.1).from
@@ -104,10 +107,10 @@ stands_once b (unit ∷ units) i j v at_i at_j =
     go : (slice_get (variables_from (b + 1) units) (i - length (of_unit b unit)) ≡ Some v → slice_get (variables_from (b + 1) units) (j - length (of_unit b unit)) ≡ Some v
         → i - length (of_unit b unit) ≡ j - length (of_unit b unit))
         → (slice_get (of_unit b unit) i ≡ Some v) ⊎ Later b unit units v i → (slice_get (of_unit b unit) j ≡ Some v) ⊎ Later b unit units v j → i ≡ j
-    go once (inl e) (inl f) = one_name unit i j v.1 (name i e) (name j f)
-    go once (inl e) (inr f) = absurd (omega (arith, number i e, later j f))
-    go once (inr e) (inl f) = absurd (omega (arith, later i e, number j f))
-    go once (inr e) (inr f) = omega (arith, e.0, f.0, once e.1 f.1)
+    go rest (inl e) (inl f) = one_name (code_variables unit.code) i j v.1 (name i e) (name j f)
+    go rest (inl e) (inr f) = absurd (omega (arith, number i e, later j f))
+    go rest (inr e) (inl f) = absurd (omega (arith, later i e, number j f))
+    go rest (inr e) (inr f) = omega (arith, e.0, f.0, rest e.1 f.1)
 
 -- ---- entities and their places
 
@@ -158,52 +161,63 @@ is_variable p k e at =
     let number : i.variable.0 - 0 ≡ i.variable.0 = omega arith in
     subst (λ (f : Entity). IsVariableOf p f.unit f.name) i.is (record { unit = s.unit; at = ap (slice_get p.units) (sym number) ∙ s.at; named = in_the_list (variables s.unit) s.place i.variable.1 s.named })
 
--- the only one of its unit and name is found
-finds : (es : List Entity) (u : ℕ) (x : List ℕ) (i : ℕ) (e : Entity) → slice_get es i ≡ Some e → e.unit ≡ u → e.name ≡ x
-    → ((j : ℕ) (f : Entity) → slice_get es j ≡ Some f → f.unit ≡ u → f.name ≡ x → j ≡ i) → entity_named es u x ≡ Some e
-finds [] u x i e at unit name only = absurd cc
-finds (f ∷ es) u x zero e at unit name only =
-    let same : f ≡ e = same_Some f e at in
-    let test : (f.unit == u && bytes_eq f.name x) ≡ true = and_from (f.unit == u) (bytes_eq f.name x) (eq-eqb f.unit u (ap (λ (g : Entity). g.unit) same ∙ unit)) ((bytes_eq-Decides f.name x).1 (ap (λ (g : Entity). g.name) same ∙ name)) in
-    ap (λ b. if b then Some f else entity_named es u x) test ∙ ap Some same
-finds (f ∷ es) u x (suc i) e at unit name only =
-    go (f.unit == u && bytes_eq f.name x) refl (finds es u x i e at unit name (λ j g at_j of_unit named. omega (arith, only (suc j) g at_j of_unit named)))
-  where
-    go : (b : Bool) → (f.unit == u && bytes_eq f.name x) ≡ b → entity_named es u x ≡ Some e → (if b then Some f else entity_named es u x) ≡ Some e
-    go false test rest = rest
-    go true test rest =
-        let parts = and_parts (f.unit == u) (bytes_eq f.name x) test in
-        absurd (omega (arith, only 0 f refl (eqb-true f.unit u parts.0) ((bytes_eq-Decides f.name x).0 parts.1)))
+-- an entity that is found by its unit and name
+pub record IsFound (es : List Entity) (u : ℕ) (x : List ℕ) : Type 0 where
+  pub index : ℕ
+  pub entity : Entity
+  pub at : slice_get es index ≡ Some entity
+  pub in_unit : entity.unit ≡ u
+  pub named : entity.name ≡ x
+  pub found : entity_named es u x ≡ Some entity
 
-pub one_entity : (p : SourceProgram) (u : ℕ) (x : List ℕ) → IsVariableOf p u x → OneEntity (layout_of p) u x
-one_entity p u x v =
+-- where one of the unit has the name, one is found
+finds : (es : List Entity) (u : ℕ) (x : List ℕ) (i : ℕ) (e : Entity) → slice_get es i ≡ Some e → e.unit ≡ u → e.name ≡ x → IsFound es u x
+finds [] u x i e at unit name = absurd cc
+finds (f ∷ es) u x i e at unit name = go (f.unit == u && bytes_eq f.name x) refl i at (λ k at_k. finds es u x k e at_k unit name)
+  where
+    go : (b : Bool) → (f.unit == u && bytes_eq f.name x) ≡ b → (k : ℕ) → slice_get (f ∷ es) k ≡ Some e → ((k : ℕ) → slice_get es k ≡ Some e → IsFound es u x) → IsFound (f ∷ es) u x
+    go true test k at rest =
+        let parts = and_parts (f.unit == u) (bytes_eq f.name x) test in
+        record { index = 0; entity = f; at = refl; in_unit = eqb-true f.unit u parts.0; named = (bytes_eq-Decides f.name x).0 parts.1; found = ap (λ b. if b then Some f else entity_named es u x) test }
+    go false test zero at rest =
+        let same : f ≡ e = same_Some f e at in
+        let other : (f.unit == u && bytes_eq f.name x) ≡ true = and_from (f.unit == u) (bytes_eq f.name x) (eq-eqb f.unit u (ap (λ (g : Entity). g.unit) same ∙ unit)) ((bytes_eq-Decides f.name x).1 (ap (λ (g : Entity). g.name) same ∙ name)) in
+        let wrong : true ≡ false = sym other ∙ test in
+        absurd cc
+    go false test (suc k) at rest =
+        let r = rest k at in
+        record { index = suc r.index; entity = r.entity; at = r.at; in_unit = r.in_unit; named = r.named; found = ap (λ b. if b then Some f else entity_named es u x) test ∙ r.found }
+
+pub is_found : (p : SourceProgram) (u : ℕ) (x : List ℕ) → IsVariableOf p u x → IsFound (layout_of p).entities u x
+is_found p u x v =
     let name = at_some_place (variables v.unit) x v.named in
     let there = has_variable 0 p.units u v.unit name.0 x v.at name.1 in
     let number : 0 + u ≡ u = omega arith in
     let at : slice_get (all_of p) there.0 ≡ Some (u, x) = there.1 ∙ ap (λ (k : ℕ). Some (k, x)) number in
-    let plain : 0 + there.0 ≡ there.0 = omega arith in
-    let here : slice_get (layout_of p).entities there.0 ≡ Some (entity_of (there.0, (u, x))) =
-    mapped_at entity_of (enumerate_from 0 (all_of p)) there.0 (0 + there.0, (u, x)) (numbered_at 0 (all_of p) there.0 (u, x) at) ∙ ap (λ (k : ℕ). Some (entity_of (k, (u, x)))) plain in
-    let only = λ (j : ℕ) (e : Entity) (at_j : slice_get (layout_of p).entities j ≡ Some e) (unit : e.unit ≡ u) (named : e.name ≡ x).
-    let i = is_entity p j e at_j in
-    let same : i.variable ≡ (u, x) = λ k. ((ap (λ (f : Entity). f.unit) i.is ∙ unit) k, (ap (λ (f : Entity). f.name) i.is ∙ named) k) in
-    stands_once 0 p.units j there.0 (u, x) (i.at ∙ ap Some same) at in
-    record {
-      index = there.0;
-      entity = entity_of (there.0, (u, x));
-      at = here;
-      in_unit = refl;
-      named = refl;
-      only = only;
-      found = finds (layout_of p).entities u x there.0 (entity_of (there.0, (u, x))) here refl refl only;
-    }
+    finds (layout_of p).entities u x there.0 (entity_of (0 + there.0, (u, x))) (mapped_at entity_of (enumerate_from 0 (all_of p)) there.0 (0 + there.0, (u, x)) (numbered_at 0 (all_of p) there.0 (u, x) at)) refl refl
+
+pub one_entity : (p : SourceProgram) (u : ℕ) (x : List ℕ) → AreNamed p → IsVariableOf p u x → OneEntity (layout_of p) u x
+one_entity p u x names v =
+    let e = is_found p u x v in
+    record { index = e.index; entity = e.entity; at = e.at; in_unit = e.in_unit; named = e.named; only = λ j f at unit named. only j f at unit named e.index e.entity e.at e.in_unit e.named; found = e.found }
+  where
+    stands_at : (j : ℕ) (f : Entity) → slice_get (layout_of p).entities j ≡ Some f → f.unit ≡ u → f.name ≡ x → slice_get (all_of p) j ≡ Some (u, x)
+    stands_at j f at unit named =
+        let i = is_entity p j f at in
+        let same : i.variable ≡ (u, x) = λ k. ((ap (λ (g : Entity). g.unit) i.is ∙ unit) k, (ap (λ (g : Entity). g.name) i.is ∙ named) k) in
+        i.at ∙ ap Some same
+
+    only : (j : ℕ) (f : Entity) → slice_get (layout_of p).entities j ≡ Some f → f.unit ≡ u → f.name ≡ x
+        → (i : ℕ) (e : Entity) → slice_get (layout_of p).entities i ≡ Some e → e.unit ≡ u → e.name ≡ x → j ≡ i
+    only j f at_j unit_f named_f i e at_i unit_e named_e =
+        stands_once 0 p.units (λ k unit at. names unit (in_the_list p.units k unit at)) j i (u, x) (stands_at j f at_j unit_f named_f) (stands_at i e at_i unit_e named_e)
 
 -- ---- the store
 
 read_back : (p : SourceProgram) (u : ℕ) (x : List ℕ) (w : Store) (v : Value) → IsVariableOf p u x → length w.numbers ≡ length (start77 (layout_of p)).numbers
     → (tagged (layout_of p) u).read ((tagged (layout_of p) u).write w x v) x ≡ integer_in (held v)
 read_back p u x w v is size =
-    let e = one_entity p u x is in
+    let e = is_found p u x is in
     let place = place_of (layout_of p) e.entity in
     ap (λ (o : Option Entity). read_at (layout_of p) (write_at (layout_of p) w o v) o) e.found
     ∙ ap integer_in (get_or-set_same w.numbers place (held v) undefined (omega (arith, size, within p e.index e.entity e.at)))
@@ -222,8 +236,8 @@ not_read p u x w v is size other = read_back p u x w v is size ∙ none v other
 pub others : (p : SourceProgram) (u t : ℕ) (x y : List ℕ) (w : Store) (v : Value) → IsVariableOf p u x → IsVariableOf p t y → ((u ≡ t) × (x ≡ y) → ⊥)
     → (tagged (layout_of p) t).read ((tagged (layout_of p) u).write w x v) y ≡ (tagged (layout_of p) t).read w y
 others p u t x y w v is_x is_y other =
-    let e = one_entity p u x is_x in
-    let f = one_entity p t y is_y in
+    let e = is_found p u x is_x in
+    let f = is_found p t y is_y in
     let differ : place_of (layout_of p) f.entity ≡ place_of (layout_of p) e.entity → ⊥ = λ same.
     let index = apart p f.index e.index f.entity e.entity f.at e.at same in
     let entity : e.entity ≡ f.entity = same_Some e.entity f.entity (sym e.at ∙ ap (slice_get (layout_of p).entities) (sym index) ∙ f.at) in

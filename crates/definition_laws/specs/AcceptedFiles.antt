@@ -1,5 +1,5 @@
 -- When nothing is refused of a file, by the program that it is the source of.
-use Rattle.std.specs.Prelude.{◌≡◌, ◌↔◌, ℕ, suc, ℤ, ◌+◌, ◌≤◌, IsTrue, List, [], length, Option, Some}
+use Rattle.std.specs.Prelude.{◌≡◌, ◌↔◌, ◌⊎◌, ℕ, ℤ, ◌+◌, ◌≤◌, IsTrue, List, [], length, Some}
 use Rattle.std.specs.List.{All}
 use Rattle.text_base.specs.Cards.{Card}
 use Rattle.text_base.specs.Operators.{unary_op, binary_op, intrinsic}
@@ -39,22 +39,23 @@ IsOfIntegers op.Min n = 2 ≤ n
 IsOfIntegers op.Min0 n = 2 ≤ n
 IsOfIntegers _ n = ⊥
 
--- integer constants and variables, and operations and intrinsic functions that give integers of such, also in parentheses
+-- Integer constants and names, and operations and intrinsic functions that give integers of such, also in parentheses. That a
+-- function has as many arguments as it takes is asked of a whole source.
 mutual
   pub data IsArithmetic : Expr → Type 0 where
     constant : {v : ℤ} → IsArithmetic (int v)
     variable : {x : List ℕ} → IsArithmetic (name x)
     signed : {o : UnaryOp} {a : Expr} → IsOfIntegers (unary_op o) 1 → IsArithmetic a → IsArithmetic (unary o a)
     operation : {o : BinaryOp} {a b : Expr} → IsOfIntegers (binary_op o) 2 → IsArithmetic a → IsArithmetic b → IsArithmetic (binary o a b)
-    function : {f : List ℕ} {xs : Exprs} {o : Op} {n : ℕ} → intrinsic f ≡ Some o → IsOfIntegers o n → AreArithmetic xs n → IsArithmetic (call f xs)
+    function : {f : List ℕ} {xs : Exprs} {o : Op} → intrinsic f ≡ Some o → IsOfIntegers o 1 ⊎ IsOfIntegers o 2 → AreArithmetic xs → IsArithmetic (call f xs)
     parenthesized : {a : Expr} → IsArithmetic a → IsArithmetic (paren a)
 
-  -- so many such expressions
-  pub data AreArithmetic : Exprs → ℕ → Type 0 where
-    no_more : AreArithmetic none 0
-    one_more : {a : Expr} {rest : Exprs} {n : ℕ} → IsArithmetic a → AreArithmetic rest n → AreArithmetic (more a rest) (suc n)
+  -- each is such an expression
+  pub data AreArithmetic : Exprs → Type 0 where
+    no_more : AreArithmetic none
+    one_more : {a : Expr} {rest : Exprs} → IsArithmetic a → AreArithmetic rest → AreArithmetic (more a rest)
 
--- a statement that is converted: a variable becomes such an expression, in a line of at most 132 characters, and LF; or STOP
+-- a statement that is converted: a name becomes such an expression, in a line of at most 132 characters, and LF; or STOP
 pub data IsConverted : Action → Type 0 where
   converted_assign : {x : List ℕ} {e : Expr} → IsArithmetic e → length (stmt_text 1 (free.simple (assign (name x) e))) ≤ LONGEST_WRITTEN + 1 → IsConverted (assign (name x) e)
   converted_stop : IsConverted stop
@@ -64,8 +65,7 @@ AreConverted done = Unit {0}
 AreConverted (item label here (simple a) rest) = IsConverted a × AreConverted rest
 AreConverted (item label here continue rest) = AreConverted rest
 
--- A program whose statements are all converted. That its variables are integers, and not its own name, and that each part has
--- the type that its place needs, is asked of each source.
+-- A program whose statements are all converted. That nothing is refused of its names and their types is asked of each source.
 abbrev pub IsBuiltProgram : SourceProgram → Type 0
 IsBuiltProgram p = All (λ unit. AreConverted unit.code) p.units
 
@@ -73,7 +73,7 @@ IsBuiltProgram p = All (λ unit. AreConverted unit.code) p.units
 
 -- A card of a file is converted exactly where it spells a statement that is.
 abbrev pub CardsAreSpelled : Type 0
-CardsAreSpelled = (unit : Option (List ℕ)) (card : Card) → IsTrue (is_built_card unit card) ↔ ((b : Built) × SpellsBuilt card b × IsTrue (is_built_statement unit b))
+CardsAreSpelled = (card : Card) → IsTrue (is_built_card card) ↔ ((b : Built) × SpellsBuilt card b × IsTrue (is_built_statement b))
 
 -- Nothing is refused of a file exactly where it is the source of a program whose statements are all converted.
 abbrev pub FilesAreSources : Type 0

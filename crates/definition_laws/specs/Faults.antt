@@ -23,7 +23,7 @@ use Rattle.tree90.specs.Meaning.{Objects}
 use Rattle.project_set.specs.Conversion.{IsConvertible}
 use Rattle.project_set.specs.Rewrite.{written}
 use Rattle.value_ops.specs.Laws.{IsOperationFault}
-use Rattle.definition_laws.specs.Storage.{place_of}
+use Rattle.definition_laws.specs.Storage.{AreNamed, place_of}
 use Rattle.definition_laws.specs.Statements.{actions_of}
 use Rattle.tree90.specs.Meaning.{run90}
 
@@ -162,7 +162,7 @@ FaultsWith p kind w e = HasFault ((tagged (layout_of p) 0).read w) kind e
 -- A run faults with Undefined only at an assignment that reads a variable whose place holds no integer there, and with a fault
 -- of operations only at one with an operation that faults so there.
 abbrev pub UndefinedIsRead : Type 0
-UndefinedIsRead = (p : SourceProgram) (n : ℕ) (here : Place) → run77 p n ≡ fault here (run_fault Undefined) → FaultsBy p n here (ReadsUndefined p)
+UndefinedIsRead = (p : SourceProgram) (n : ℕ) (here : Place) → AreNamed p → run77 p n ≡ fault here (run_fault Undefined) → FaultsBy p n here (ReadsUndefined p)
 
 abbrev pub FaultIsReached : Type 0
 FaultIsReached = (p : SourceProgram) (n : ℕ) (here : Place) (kind : RunFault) → IsOperationFault kind → run77 p n ≡ fault here (run_fault kind) → FaultsBy p n here (FaultsWith p kind)

@@ -6,18 +6,27 @@ use Rattle.text_base.specs.Trees.{Action}
 use Rattle.text_base.specs.declared.refusal.Place.{Place}
 use Rattle.text_base.specs.Values.{Value, integer, integers, kind_of, undefined}
 use Rattle.program77.specs.Tree.{SourceUnit, SourceProgram}
-use Rattle.program77.specs.Typing.{code_variables, variables}
+use Rattle.program77.specs.Typing.{code_variables, first_seen, variables}
 use Rattle.program77.specs.Layout.{Layout, Entity, layout_of, numeric_place, entity_named}
 use Rattle.program77.specs.Meaning.{Store, tagged, start77}
 use Rattle.tree90.specs.Meaning.{Cells, Objects, cells_of, untagged}
 use Rattle.definition_laws.specs.Statements.{actions_of}
+use Rattle.project_set.specs.Conversion.{IsConvertible}
 use Rattle.project_set.specs.MapText.{MapLine, map_lines}
 
 -- ---- variables
 
--- The variables of a unit are the names of its statements that don't stand before parentheses.
+-- The variables of each unit are the names of its statements that don't stand before parentheses, each once, as they appear first.
+abbrev pub AreNamed : SourceProgram → Type 0
+AreNamed p = (u : SourceUnit) → Contains p.units u → variables u ≡ first_seen (code_variables u.code)
+
+-- So they are in each source that is converted.
+abbrev pub SourcesAreNamed : Type 0
+SourcesAreNamed = (bytes : List ℕ) (p : SourceProgram) → IsConvertible bytes p → AreNamed p
+
+-- Then a name is that of a variable exactly where it is one of these.
 abbrev pub VariablesAreNames : Type 0
-VariablesAreNames = (u : SourceUnit) (x : List ℕ) → Contains (variables u) x ↔ Contains (code_variables u.code) x
+VariablesAreNames = (p : SourceProgram) (u : SourceUnit) (x : List ℕ) → AreNamed p → Contains p.units u → Contains (variables u) x ↔ Contains (code_variables u.code) x
 
 -- They are named in the order of the text.
 abbrev pub NamesAreOfStatements : Type 0
@@ -30,7 +39,7 @@ first_place (y ∷ ys) x = if bytes_eq y x then 0 else first_place ys x + 1
 
 -- They are in the order in which these appear first, so no two are the same.
 abbrev pub VariablesInOrder : Type 0
-VariablesInOrder = (u : SourceUnit) (i j : ℕ) (x y : List ℕ) → i < j → slice_get (variables u) i ≡ Some x → slice_get (variables u) j ≡ Some y
+VariablesInOrder = (p : SourceProgram) (u : SourceUnit) (i j : ℕ) (x y : List ℕ) → AreNamed p → Contains p.units u → i < j → slice_get (variables u) i ≡ Some x → slice_get (variables u) j ≡ Some y
     → first_place (code_variables u.code) x < first_place (code_variables u.code) y
 
 -- a variable of the unit of this number
@@ -53,7 +62,7 @@ pub record OneEntity (layout : Layout) (u : ℕ) (x : List ℕ) : Type 0 where
 
 -- Each variable of a unit has exactly one entity, and there are no other entities.
 abbrev pub VariablesHaveEntities : Type 0
-VariablesHaveEntities = (p : SourceProgram) (u : ℕ) (x : List ℕ) → IsVariableOf p u x → OneEntity (layout_of p) u x
+VariablesHaveEntities = (p : SourceProgram) (u : ℕ) (x : List ℕ) → AreNamed p → IsVariableOf p u x → OneEntity (layout_of p) u x
 
 abbrev pub EntitiesAreVariables : Type 0
 EntitiesAreVariables = (p : SourceProgram) (k : ℕ) (e : Entity) → slice_get (layout_of p).entities k ≡ Some e → IsVariableOf p e.unit e.name

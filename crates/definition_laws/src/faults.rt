@@ -4,7 +4,7 @@ ghost use Rattle.tree90.specs.Meaning.{Objects};
 ghost use Rattle.definition_laws.specs.Faults.{ValuesAreGiven, GivenAreValues, UndefinedHasCause, FaultHasCause, FaultsAreHere, LeftIsFirst, FirstArgumentIsFirst, TypedHaveMeaning};
 ghost use Rattle.definition_laws.specs.Faults.{UndefinedIsRead, FaultIsReached, StoresOfRuns, StoresAtEnd, SourceFaultsInTwoWays, WrittenFaultsInOneWay};
 
-use project_set::written_is_proper;
+use project_set::{sources_are_typed, written_is_proper};
 
 /// What an expression of a FORTRAN 77 program gives is its value, and it gives it where it has one. It faults with Undefined or as
 /// its operations do for no other reason than these words say. Where its parts have the types that they need, it gives values of
@@ -46,5 +46,6 @@ pub fn converted_sources_fault_in_two_ways()
     ensures source { SourceFaultsInTwoWays }
     ensures written { WrittenFaultsInOneWay }
 {
+    sources_are_typed();
     written_is_proper();
 }

@@ -3,3 +3,4 @@ pub mod OperandLemmas
 pub mod OperandRows
 pub mod PartLemmas
 pub mod TypingLemmas
+pub mod TypedUnits

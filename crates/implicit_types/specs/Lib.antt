@@ -6,3 +6,4 @@ pub mod Typing
 pub mod Views
 pub mod OperandLaws
 pub mod OperandViews
+pub mod TypingLaws

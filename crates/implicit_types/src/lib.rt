@@ -12,5 +12,5 @@ mod statement_findings;
 mod typing;
 
 pub use entity::{Entities, Entity, EntityKind, TypeError};
-pub use laws::operands_are_those_of_the_table;
+pub use laws::{operands_are_those_of_the_table, typed_units_have_one_meaning};
 pub use typing::{Typed, has_no_equivalence, type_unit};

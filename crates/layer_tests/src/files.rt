@@ -39,7 +39,7 @@ fn check_refused(rt: &impl Abort, alloc: Global, row: &Row) -> Result<(), Fail> 
 
 #[test]
 fn what_is_not_converted_is_refused(rt: HostRuntime) -> Result<(), Fail> {
-    for row in rows_of(rt.alloc(), REFUSED, 48, 2)?.iter() {
+    for row in rows_of(rt.alloc(), REFUSED, 50, 2)?.iter() {
         check_refused(&rt, rt.alloc(), row)?;
     }
     Ok(())

@@ -101,7 +101,7 @@ fn told(rt: &impl Abort, alloc: Global, file: &[u8]) -> Result<Bytes, Fail> {
 #[test]
 fn units_are_typed(rt: HostRuntime) -> Result<(), Fail> {
     let alloc = rt.alloc();
-    for row in rows_of(alloc, TYPED_UNITS, 148, 2)?.iter() {
+    for row in rows_of(alloc, TYPED_UNITS, 150, 2)?.iter() {
         row.check(&rt, 1, told(&rt, alloc, row.field(0))?.as_slice());
     }
     Ok(())
@@ -110,7 +110,7 @@ fn units_are_typed(rt: HostRuntime) -> Result<(), Fail> {
 #[test]
 fn types_are_refused(rt: HostRuntime) -> Result<(), Fail> {
     let alloc = rt.alloc();
-    for row in rows_of(alloc, REFUSED_TYPES, 280, 2)?.iter() {
+    for row in rows_of(alloc, REFUSED_TYPES, 282, 2)?.iter() {
         row.check(&rt, 1, told(&rt, alloc, row.field(0))?.as_slice());
     }
     Ok(())

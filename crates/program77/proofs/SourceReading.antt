@@ -1,12 +1,12 @@
 -- The program that is read is the one that the source is.
 use Rattle.std.proofs.Common.{◌≡◌, ℕ, Bool, true, false, List, [], ◌∷◌, map, Option, Some, None, refl, sym, ap, ◌∙◌, subst}
 use Rattle.std.specs.Prelude.{◌==◌, if◌then◌else◌}
-use Rattle.std.specs.Option.{option_map, option_and_then}
+use Rattle.std.specs.Option.{option_map}
 use Rattle.std.proofs.lemmas.Bool.{eqb-true, eq-eqb}
 use Rattle.text_base.specs.Cards.{Card, cards}
 use Rattle.text_base.specs.LineRefusals.{card_refusals}
 use Rattle.text_base.specs.declared.refusal.Refusal.{Refusal}
-use Rattle.text_base.proofs.Optional.{went, mapped}
+use Rattle.text_base.proofs.Optional.{mapped}
 use Rattle.tree77.specs.CardSpelling.{SpellsCard}
 use Rattle.tree77.specs.Statements.{Statement}
 use Rattle.unit77.specs.CardPrograms.{AreUnitsOf}
@@ -16,9 +16,10 @@ use Rattle.parse77.specs.Statement.{deck_refusals}
 use Rattle.program77.specs.Built.{Built, SpellsBuilt}
 use Rattle.program77.specs.Plain.{is_converted, source_unit, one_converted}
 use Rattle.program77.specs.Source.{IsSource}
-use Rattle.program77.specs.SourceReading.{read_card, read_of, built_in, read_unit, file_statements, typed_unit, unless_refused, read_source}
+use Rattle.names77.specs.Text.{text_of}
+use Rattle.implicit_types.specs.Typing.{Refused, refusals_in, refusals_of}
+use Rattle.program77.specs.SourceReading.{read_card, read_of, built_in, text_from, type_refusals, read_unit, file_statements, unless_refused, read_source}
 use Rattle.program77.specs.Tree.{SourceUnit, SourceProgram}
-use Rattle.program77.specs.Typing.{is_typed}
 
 -- what is known of cards and of files
 pub record Laws : Type 0 where
@@ -27,6 +28,7 @@ pub record Laws : Type 0 where
   pub found : (cs : List Card) → deck_refusals cs ≡ [] → (us : List ProgramUnit) × AreUnitsOf cs us
   pub only : (cs : List Card) (us : List ProgramUnit) → AreUnitsOf cs us → deck_refusals cs ≡ []
   pub unit_read : (cs : List Card) (us : List ProgramUnit) → AreUnitsOf cs us → read_unit (map read_of cs) ≡ one_converted us
+  pub text_read : (cs : List Card) (unit : ProgramUnit) → AreUnitsOf cs (unit ∷ []) → is_converted unit ≡ true → text_from 0 (map read_of cs) ≡ text_of unit
 
 module _ (l : Laws) where
   -- ---- statements that are converted
@@ -50,7 +52,7 @@ module _ (l : Laws) where
 
   -- the program that the cards of a file spell
   abbrev program_read : ℕ → List ℕ → Option SourceProgram
-  program_read file bytes = option_map program_of (option_and_then typed_unit (read_unit (file_statements file bytes)))
+  program_read file bytes = option_map program_of (read_unit (file_statements file bytes))
 
   -- the one unit, where it is converted
   pub record IsOne (us : List ProgramUnit) (u : SourceUnit) : Type 0 where
@@ -68,45 +70,42 @@ module _ (l : Laws) where
       go false is e = absurd cc
   is_one (v ∷ w ∷ us) u e = absurd cc
 
-  typed : (u : SourceUnit) (b : Bool) → is_typed u ≡ b → (v : SourceUnit) → (if b then Some u else None) ≡ Some v → (is_typed v ≡ true) × (u ≡ v)
-  typed u true is v e = let same : u ≡ v = cc in (subst (λ z. is_typed z ≡ true) same is, same)
-  typed u false is v e = absurd cc
-
   -- the source of the one unit of a file
   source_by : (file : ℕ) (bytes : List ℕ) (p : SourceProgram) (u : SourceUnit) → card_refusals file bytes ≡ [] → ((us : List ProgramUnit) × AreUnitsOf (cards file bytes) us)
-      → read_unit (file_statements file bytes) ≡ Some u → is_typed u ≡ true → program_of u ≡ p → IsSource file bytes p
-  source_by file bytes p u lines units was typed is =
+      → type_refusals (file_statements file bytes) ≡ [] → read_unit (file_statements file bytes) ≡ Some u → program_of u ≡ p → IsSource file bytes p
+  source_by file bytes p u lines units typed was is =
       let one = is_one units.0 u (sym (l.unit_read (cards file bytes) units.0 units.1) ∙ was) in
+      let alone = subst (AreUnitsOf (cards file bytes)) one.whole units.1 in
       record {
         unit = one.unit;
         accepted = lines;
-        units = subst (AreUnitsOf (cards file bytes)) one.whole units.1;
+        units = alone;
         converted = one.converted;
-        typed = subst (λ v. is_typed v ≡ true) one.is typed;
+        typed = ap refusals_in (sym (l.text_read (cards file bytes) one.unit alone one.converted)) ∙ typed;
         whole = sym is ∙ ap program_of one.is;
       }
 
   -- what is read is the program of the source
   pub source_of : (file : ℕ) (bytes : List ℕ) (p : SourceProgram) → read_source file bytes ≡ Some p → IsSource file bytes p
-  source_of file bytes p e = go (card_refusals file bytes) refl (deck_refusals (cards file bytes)) refl e
+  source_of file bytes p e = go (card_refusals file bytes) refl (deck_refusals (cards file bytes)) refl (type_refusals (file_statements file bytes)) refl e
     where
-      go : (rs : List Refusal) → card_refusals file bytes ≡ rs → (qs : List Refusal) → deck_refusals (cards file bytes) ≡ qs
-          → unless_refused rs (unless_refused qs (program_read file bytes)) ≡ Some p → IsSource file bytes p
-      go [] lines [] deck e =
-          let m = mapped (option_and_then typed_unit (read_unit (file_statements file bytes))) program_of p e in
-          let w = went (read_unit (file_statements file bytes)) typed_unit m.from m.was in
-          let t = typed w.from (is_typed w.from) refl m.from w.is in
-          source_by file bytes p m.from lines (l.found (cards file bytes) deck) (w.was ∙ ap Some t.1) t.0 m.is
-      go [] lines (q ∷ qs) deck e = absurd cc
-      go (r ∷ rs) lines qs deck e = absurd cc
+      go : (rs : List Refusal) → card_refusals file bytes ≡ rs → (qs : List Refusal) → deck_refusals (cards file bytes) ≡ qs → (ts : List Refused) → type_refusals (file_statements file bytes) ≡ ts
+          → unless_refused rs (unless_refused qs (unless_refused ts (program_read file bytes))) ≡ Some p → IsSource file bytes p
+      go [] lines [] deck [] typed e =
+          let m = mapped (read_unit (file_statements file bytes)) program_of p e in
+          source_by file bytes p m.from lines (l.found (cards file bytes) deck) typed m.was m.is
+      go [] lines [] deck (t ∷ ts) typed e = absurd cc
+      go [] lines (q ∷ qs) deck ts typed e = absurd cc
+      go (r ∷ rs) lines qs deck ts typed e = absurd cc
 
   -- the program of the source is read
   pub source_read : (file : ℕ) (bytes : List ℕ) (p : SourceProgram) → IsSource file bytes p → read_source file bytes ≡ Some p
   source_read file bytes p s =
       let read : read_unit (file_statements file bytes) ≡ Some (source_unit s.unit) =
       l.unit_read (cards file bytes) (s.unit ∷ []) s.units ∙ ap (λ b. if b then Some (source_unit s.unit) else None) s.converted in
-      ap (λ rs. unless_refused rs (unless_refused (deck_refusals (cards file bytes)) (program_read file bytes))) s.accepted
-      ∙ ap (λ rs. unless_refused rs (program_read file bytes)) (l.only (cards file bytes) (s.unit ∷ []) s.units)
-      ∙ ap (λ o. option_map program_of (option_and_then typed_unit o)) read
-      ∙ ap (λ b. option_map program_of (if b then Some (source_unit s.unit) else None)) s.typed
+      let typed : type_refusals (file_statements file bytes) ≡ [] = ap refusals_in (l.text_read (cards file bytes) s.unit s.units s.converted) ∙ s.typed in
+      ap (λ rs. unless_refused rs (unless_refused (deck_refusals (cards file bytes)) (unless_refused (type_refusals (file_statements file bytes)) (program_read file bytes)))) s.accepted
+      ∙ ap (λ rs. unless_refused rs (unless_refused (type_refusals (file_statements file bytes)) (program_read file bytes))) (l.only (cards file bytes) (s.unit ∷ []) s.units)
+      ∙ ap (λ rs. unless_refused rs (program_read file bytes)) typed
+      ∙ ap (option_map program_of) read
       ∙ ap Some (sym s.whole)

@@ -9,6 +9,9 @@ use Rattle.unit77.specs.Tree as u
 use Rattle.unit77.specs.Tree.{Line, Items, first_line}
 use Rattle.unit77.specs.UnitViews.{unit_of}
 use Rattle.unit77.specs.declared.tree.Unit77.{Unit77}
+use Rattle.names77.specs.Known.{known}
+use Rattle.names77.specs.Text.{text_of}
+use Rattle.implicit_types.specs.Typing.{entities_of}
 use Rattle.program77.specs.Built.{Built, built_of, program, action, continue}
 use Rattle.program77.specs.Tree as tree
 use Rattle.program77.specs.Tree.{Stmt, simple, Code, done, item, SourceUnit}
@@ -69,6 +72,7 @@ abbrev pub source_unit : ProgramUnit → SourceUnit
 source_unit unit = record {
   name = name_or_main (flat_map (λ (l : Line). own_names l.statement) unit.headers);
   place = unit.place;
+  entities = entities_of (known (text_of unit));
   code = code_of unit.items;
   end = unit.last.place;
 }

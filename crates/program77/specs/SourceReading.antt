@@ -1,15 +1,19 @@
 -- The reading of a source as a function: what it gives is what the source spells, and nothing else is spelled.
-use Rattle.std.specs.Prelude.{ℕ, ◌==◌, List, [], ◌∷◌, map, Option, Some, None, if◌then◌else◌}
+use Rattle.std.specs.Prelude.{ℕ, suc, ◌==◌, List, [], ◌∷◌, ◌++◌, map, Option, Some, None, if◌then◌else◌}
 use Rattle.std.specs.Option.{option_map, option_and_then}
 use Rattle.text_base.specs.Cards.{Card, cards}
 use Rattle.text_base.specs.LineRefusals.{card_refusals}
+use Rattle.text_base.specs.Trees as t
 use Rattle.text_base.specs.declared.refusal.Place.{Place}
 use Rattle.text_base.specs.declared.refusal.Refusal.{Refusal}
 use Rattle.program77.specs.Built.{Built, built_of, program, action, continue, end_of_unit}
 use Rattle.program77.specs.Tree as tree
 use Rattle.program77.specs.Tree.{Code, done, item, SourceUnit, SourceProgram}
-use Rattle.program77.specs.Typing.{is_typed}
+use Rattle.tree77.specs.Statements as s
 use Rattle.tree77.specs.Statements.{Statement}
+use Rattle.unit77.specs.Tree.{Line}
+use Rattle.names77.specs.Known.{known}
+use Rattle.implicit_types.specs.Typing.{Refused, entities_of, refusals_in}
 use Rattle.order77.specs.Counts.{Reading}
 use Rattle.parse77.specs.Reading.{Outcome, accepted, rejected, card_outcome}
 use Rattle.parse77.specs.Statement.{deck_refusals}
@@ -66,35 +70,54 @@ abbrev pub read_code : List ReadCard → Option Ended
 read_code [] = None
 read_code (read ∷ rest) = option_and_then (λ s. join_code read.place s rest (read_code rest)) read.spelled
 
--- the unit that begins with a statement, where this list stands behind it
-abbrev pub unit_with : Place → Built → Option Ended → Option SourceUnit
-unit_with here (program x) ended = option_map (λ (r : Ended). record { name = x; place = here; code = r.0; end = r.1 }) ended
-unit_with here (action a) ended = None
-unit_with here continue ended = None
-unit_with here end_of_unit ended = None
+-- ---- the text of a unit
 
--- the name in a PROGRAM statement
-abbrev pub header_name : Built → Option (List ℕ)
-header_name (program x) = Some x
-header_name (action a) = None
-header_name continue = None
-header_name end_of_unit = None
+-- the statement that this one is
+abbrev pub statement_of : Built → Statement
+statement_of (program x) = s.header (s.program x)
+statement_of (action (t.assign d e)) = s.simple (s.assign d e)
+statement_of (action t.stop) = s.simple (s.stop None)
+statement_of continue = s.simple s.continue
+statement_of end_of_unit = s.end
+
+abbrev pub line_of : ℕ → Place → Built → Line
+line_of n here b = record { number = n; label = 0; place = here; statement = statement_of b }
+
+-- a statement among those of a unit's text; END is none of them
+abbrev pub text_with : ℕ → Place → Option Built → List Line → List Line
+text_with n here None rest = rest
+text_with n here (Some end_of_unit) rest = rest
+text_with n here (Some b) rest = line_of n here b ∷ rest
+
+-- the text of a unit, whose first statement has this number
+abbrev pub text_from : ℕ → List ReadCard → List Line
+text_from n [] = []
+text_from n (read ∷ rest) = text_with n read.place read.spelled (text_from (suc n) rest)
+
+-- what is refused of the names of its statements and their types
+abbrev pub type_refusals : List ReadCard → List Refused
+type_refusals reads = refusals_in (text_from 0 reads)
+
+-- ---- units
+
+-- the unit that begins with a statement, where this list stands behind it, and this is its text
+abbrev pub unit_with : List Line → Place → Built → Option Ended → Option SourceUnit
+unit_with text here (program x) ended = option_map (λ (r : Ended). record { name = x; place = here; entities = entities_of (known text); code = r.0; end = r.1 }) ended
+unit_with text here (action a) ended = None
+unit_with text here continue ended = None
+unit_with text here end_of_unit ended = None
 
 -- the main program of some statements: PROGRAM, a list, and END
 abbrev pub read_unit : List ReadCard → Option SourceUnit
 read_unit [] = None
-read_unit (read ∷ rest) = option_and_then (λ s. unit_with read.place s (read_code rest)) read.spelled
+read_unit (read ∷ rest) = option_and_then (λ s. unit_with (text_from 0 (read ∷ rest)) read.place s (read_code rest)) read.spelled
 
 -- the statements of a file as they are read
 abbrev pub file_statements : ℕ → List ℕ → List ReadCard
 file_statements file bytes = map read_of (cards file bytes)
 
--- the unit, where its names are those of integer variables
-abbrev pub typed_unit : SourceUnit → Option SourceUnit
-typed_unit unit = if is_typed unit then Some unit else None
-
 -- what is read where nothing is refused
-abbrev pub unless_refused : {X : Type 0} → List Refusal → Option X → Option X
+abbrev pub unless_refused : {R X : Type 0} → List R → Option X → Option X
 unless_refused [] read = read
 unless_refused (first ∷ rest) read = None
 
@@ -103,4 +126,5 @@ abbrev pub read_source : ℕ → List ℕ → Option SourceProgram
 read_source file bytes =
     unless_refused (card_refusals file bytes)
     (unless_refused (deck_refusals (cards file bytes))
-    (option_map (λ (unit : SourceUnit). record { units = unit ∷ [] }) (option_and_then typed_unit (read_unit (file_statements file bytes)))))
+    (unless_refused (type_refusals (file_statements file bytes))
+    (option_map (λ (unit : SourceUnit). record { units = unit ∷ [] }) (read_unit (file_statements file bytes)))))

@@ -2,6 +2,7 @@
 use Rattle.std.specs.Prelude.{ℕ, List}
 use Rattle.text_base.specs.Trees.{Action}
 use Rattle.text_base.specs.declared.refusal.Place.{Place}
+use Rattle.implicit_types.specs.Typing.{Entity}
 
 -- an executable statement
 pub data Stmt : Type 0 where
@@ -14,10 +15,11 @@ pub data Code : Type 0 where
   done : Code
   item : ℕ → Place → Stmt → Code → Code
 
--- a main program: its name, the places of its first statement and of its END, and its statements
+-- a main program: its name, the places of its first statement and of its END, its entities by first appearance, and its statements
 pub record SourceUnit : Type 0 where
   pub name : List ℕ
   pub place : Place
+  pub entities : List Entity
   pub code : Code
   pub end : Place
 

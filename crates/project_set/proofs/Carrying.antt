@@ -4,7 +4,7 @@ use Rattle.std.proofs.lemmas.List.{append-nil}
 use Rattle.text_base.specs.Cards.{Comment, comments}
 use Rattle.text_base.specs.Runs.{Final, going, ended, fault}
 use Rattle.program77.specs.Tree.{SourceUnit, SourceProgram}
-use Rattle.program77.specs.Typing.{variables, code_variables}
+use Rattle.program77.specs.Typing.{variables}
 use Rattle.program77.specs.Plain.{source_unit}
 use Rattle.program77.specs.Source.{IsSource}
 use Rattle.program77.specs.Layout.{Layout}
@@ -15,13 +15,13 @@ use Rattle.tree90.specs.Meaning as nested
 use Rattle.project_set.specs.MapText.{MapLine, map_lines, map_line_of}
 use Rattle.project_set.specs.Match.{IsMap, Matches, DoesTheSame}
 use Rattle.project_set.specs.Rewrite.{comments_from, written, written_unit}
-use Rattle.project_set.proofs.Names.{distinct_first_seen}
+use Rattle.project_set.proofs.Names.{Distinct}
 use Rattle.project_set.proofs.Placing.{layout_at, one_unit, variables_of_one, layout_of_one}
 use Rattle.project_set.proofs.Agreeing.{declarations, agrees_start}
 use Rattle.project_set.proofs.Following.{Alike, follows_unit}
 use Rattle.project_set.proofs.Mapping.{map_lines_at, is_map_at, carried_at}
 
-module _ (cs : List Comment) (u : SourceUnit) where
+module _ (cs : List Comment) (u : SourceUnit) (once : Distinct (variables u)) where
   abbrev layout : Layout
   layout = layout_at u.name (variables u)
 
@@ -33,11 +33,11 @@ module _ (cs : List Comment) (u : SourceUnit) where
 
   -- runs that are alike match
   matches : (x : Final Store) (y : Final Objects) → Alike u.name (variables u) x y → Matches layout lines x y
-  matches (going w) (going w') a = carried_at u.name (variables u) (distinct_first_seen (code_variables u.code)) w w' a
+  matches (going w) (going w') a = carried_at u.name (variables u) once w w' a
   matches (going w) (ended w' c') a = absurd a
   matches (going w) (fault here' kind') a = absurd a
   matches (ended w c) (going w') a = absurd a
-  matches (ended w c) (ended w' c') a = (carried_at u.name (variables u) (distinct_first_seen (code_variables u.code)) w w' a.0, a.1)
+  matches (ended w c) (ended w' c') a = (carried_at u.name (variables u) once w w' a.0, a.1)
   matches (ended w c) (fault here' kind') a = absurd a
   matches (fault here kind) f a = tt
 
@@ -54,7 +54,7 @@ module _ (cs : List Comment) (u : SourceUnit) where
   one_does_the_same : DoesTheSame (one_unit u) (written cs (one_unit u)) (map_lines (one_unit u))
   one_does_the_same = record {
     is_map = subst (λ (l : Layout). IsMap l (written cs (one_unit u)) (map_lines (one_unit u))) (sym (layout_of_one u))
-        (subst (IsMap layout (written cs (one_unit u))) (sym lines_are) (is_map_at u.name (variables u) (distinct_first_seen (code_variables u.code)) (written cs (one_unit u)) declared_is));
+        (subst (IsMap layout (written cs (one_unit u))) (sym lines_are) (is_map_at u.name (variables u) once (written cs (one_unit u)) declared_is));
     follows = λ start begins n.
         let f = unit_follows start begins n in (
           f.0,
@@ -64,5 +64,5 @@ module _ (cs : List Comment) (u : SourceUnit) where
         );
   }
 
-pub does_the_same : (bytes : List ℕ) (p : SourceProgram) → IsSource 0 bytes p → DoesTheSame p (written (comments bytes) p) (map_lines p)
-does_the_same bytes p source = subst (λ (q : SourceProgram). DoesTheSame q (written (comments bytes) q) (map_lines q)) (sym source.whole) (one_does_the_same (comments bytes) (source_unit source.unit))
+pub does_the_same : (bytes : List ℕ) (p : SourceProgram) (source : IsSource 0 bytes p) → Distinct (variables (source_unit source.unit)) → DoesTheSame p (written (comments bytes) p) (map_lines p)
+does_the_same bytes p source once = subst (λ (q : SourceProgram). DoesTheSame q (written (comments bytes) q) (map_lines q)) (sym source.whole) (one_does_the_same (comments bytes) (source_unit source.unit) once)

@@ -9,8 +9,10 @@ use Rattle.project_set.specs.Conversion.{program_text}
 use Rattle.project_set.specs.Laws.{WrittenIsProper, ConversionsDoTheSame}
 use Rattle.project_set.specs.MapText.{map_lines}
 use Rattle.project_set.specs.Rewrite.{written}
+use Rattle.project_set.specs.Typed.{SourcesAreTyped}
 use Rattle.project_set.proofs.Carrying.{does_the_same}
 use Rattle.project_set.proofs.PositionLemmas.{comments_kept}
+use Rattle.project_set.proofs.ProperLemmas.{typed_unit, distinct_variables}
 use Rattle.project_set.proofs.SkeletonLemmas.{skeletons_kept}
 
 -- what the laws on texts say
@@ -20,8 +22,8 @@ OneRead = (text : List ℕ) (p q : FreeProgram) → SpellsText text p → Spells
 abbrev pub PrintedRead : Type 0
 PrintedRead = (p : FreeProgram) → IsWritable p → SpellsText (printed p) p
 
-pub conversions_do_the_same : WrittenIsProper → OneRead → PrintedRead → ConversionsDoTheSame
-conversions_do_the_same proper one read bytes p converted =
+pub conversions_do_the_same : SourcesAreTyped → WrittenIsProper → OneRead → PrintedRead → ConversionsDoTheSame
+conversions_do_the_same typed proper one read bytes p converted =
     let program = written (comments bytes) p in
     let is = proper bytes p converted in
     let spelled = read program is.writable in
@@ -30,7 +32,7 @@ conversions_do_the_same proper one read bytes p converted =
       one_reading = record { is_read = spelled; only = λ other r. one (program_text bytes p) other program r spelled; proper = is };
       lines = map_lines p;
       is_map = refl;
-      does_the_same = does_the_same bytes p converted.is_source;
+      does_the_same = does_the_same bytes p converted.is_source (distinct_variables _ (typed_unit typed bytes p converted));
       skeletons = skeletons_kept bytes p converted.is_source;
       comments = comments_kept bytes p converted.is_source;
     }

@@ -18,14 +18,17 @@ pub mod SpellingLemmas
 pub mod ShortLineLemmas
 pub mod ProperLemmas
 pub mod ItemLemmas
-pub mod NameLemmas
+mod VariableLemmas
 pub mod MapLemmas
 pub mod SizeLemmas
-pub mod FreeLemmas
+mod BuiltLemmas
 pub mod DeckLemmas
 pub mod RewriteLemmas
 pub mod StatementLemmas
 pub mod CardCount
 pub mod ConversionLemmas
 pub mod HeadingLemmas
+mod TypedForms
+mod TypedNames
+mod TypedParts
 mod TypedLemmas

@@ -1,5 +1,5 @@
 -- The map of a program of one unit: a line for each variable, and no other.
-use Rattle.std.proofs.Common.{◌≡◌, ℕ, zero, suc, ◌+◌, ◌-◌, ◌<◌, ℤ, Bool, true, false, not, ◌&&◌, List, [], ◌∷◌, ◌++◌, length, map, codes, Contains, Option, Some, None, refl, sym, ap, ◌∙◌, subst, arith, nat_lt}
+use Rattle.std.proofs.Common.{◌≡◌, ℕ, zero, suc, ◌+◌, ◌-◌, ◌<◌, Bool, true, false, not, ◌&&◌, List, [], ◌∷◌, ◌++◌, length, map, codes, Contains, Option, Some, None, refl, sym, ap, ◌∙◌, subst, arith, nat_lt}
 use Rattle.std.specs.Prelude.{slice_get, slice_index_or, if◌then◌else◌}
 use Rattle.std.specs.List.{enumerate_from}
 use Rattle.std.specs.Option.{option_map, option_and_then}
@@ -10,7 +10,6 @@ use Rattle.program77.specs.Layout.{Sequence, Entity, Layout, sequence_of, entity
 use Rattle.program77.specs.Meaning.{Store}
 use Rattle.tree90.specs.Tree.{integer_object, FreeProgram}
 use Rattle.tree90.specs.Meaning.{Cells, Objects, cells_of, integer_at, declared_in}
-use Rattle.tree90.specs.Meaning.{integers as integer_cells}
 use Rattle.project_set.specs.MapText.{MapLine, home_text, sequence_text, map_line_of}
 use Rattle.project_set.specs.Match.{IsSeen, Covers, object_place, OneLine, IsObjectPlace, IsNeeded, IsMap, held_in, held_at, byte_in, IsCarried}
 use Rattle.project_set.proofs.Names.{Distinct, one_place, place_at}

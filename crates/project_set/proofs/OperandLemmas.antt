@@ -1,6 +1,6 @@
 -- An expression that a card spells can be written where it is converted: its constants are in the range, its names are names, and
 -- no operand would be read differently without parentheses.
-use Rattle.std.proofs.Common.{◌≡◌, ℕ, zero, suc, pos, negsuc, Bool, true, false, ◌&&◌, ◌||◌, List, [], ◌∷◌, ◌++◌, length, map, take, refl, sym, ap, ◌∙◌, ◌≤◌, ◌≢◌, subst, arith, le-leb}
+use Rattle.std.proofs.Common.{◌≡◌, ℕ, zero, suc, pos, Bool, true, false, ◌&&◌, ◌||◌, List, [], ◌∷◌, ◌++◌, length, map, take, refl, sym, ap, ◌∙◌, ◌≤◌, ◌≢◌, subst, arith, le-leb}
 use Rattle.std.specs.Prelude.{◌==◌, nat_le, if◌then◌else◌}
 use Rattle.std.specs.List.{list_all}
 use Rattle.std.proofs.lemmas.Bool.{and_from, and_parts}
@@ -8,7 +8,7 @@ use Rattle.std.proofs.lemmas.List.{length-take}
 use Rattle.std.proofs.lemmas.List.Folds.{list_all-append}
 use Rattle.text_base.specs.Chars.{is_upper, is_digit, is_name_byte, is_name}
 use Rattle.text_base.specs.Pieces.{Piece}
-use Rattle.text_base.specs.Trees.{UnaryOp, plus, minus, negation, BinaryOp, power, times, over, add, subtract, concat, less, less_equal, equal, not_equal, greater, greater_equal, conjunction, disjunction, equivalence, nonequivalence, Expr, int, bool, text, name, call, substring, unary, binary, paren, Exprs}
+use Rattle.text_base.specs.Trees.{UnaryOp, plus, minus, negation, BinaryOp, power, times, over, add, subtract, concat, less, less_equal, equal, not_equal, greater, greater_equal, conjunction, disjunction, equivalence, nonequivalence, Expr, int, bool, text, name, unary, binary, Exprs}
 use Rattle.text_base.specs.declared.limits.TheConstants.{GREATEST_INTEGER}
 use Rattle.tree77.specs.Kinds.{is_word}
 use Rattle.tree77.specs.Expressions.{Symbol, operand, alternate, operator, not_sign, opening, closing, comma, colon, Grammar, is_product, is_sum, is_concat, is_relation, is_conjunction, is_disjunction, is_equivalence, Listed, listed_one, listed_more, Argument, argument_expression, argument_alternate, Chain, chain_one, chain_more, Factor, factor_one, factor_power, Term, Signed, signed_none, signed_by, Concatenation, Sum, Relation, relation_one, relation_two, Negation, negation_none, negation_by, Conjunction, Disjunction, Primary, primary_operand, primary_reference, primary_empty, primary_substring, primary_paren, Nested}

@@ -15,17 +15,17 @@ use Rattle.program77.specs.Tree.{simple, continue, Code, done, item, SourceUnit}
 use Rattle.text_base.specs.Names.{action_variables}
 use Rattle.program77.specs.Typing.{code_variables, variables}
 use Rattle.program77.specs.Built.{SpellsBuilt}
-use Rattle.program77.specs.SourceReading.{ReadCard, read_card, read_of, Ended, join_code, read_code, unit_with, read_unit}
+use Rattle.unit77.specs.Tree.{Line}
+use Rattle.program77.specs.SourceReading.{ReadCard, read_card, read_of, Ended, join_code, read_code, text_from, unit_with, read_unit}
 use Rattle.tree90.specs.Tree as free
 use Rattle.text_base.specs.Remarks.{Remark}
 use Rattle.tree90.specs.Tree.{integer_object}
 use Rattle.tree90.specs.Plain.{CodeAndTail, with_item}
 use Rattle.tree90.specs.Printed.{action_text, stmt_text, declared_text, code_text, unit_text}
 use Rattle.tree90.specs.Proper.{IsWritableCode}
-use Rattle.project_set.specs.Refusals.{program_name, is_short, is_built_as, is_built_card, unbuilt_refusals}
+use Rattle.project_set.specs.Refusals.{is_built_action, is_short, is_built_as, is_built_card, unbuilt_refusals}
 use Rattle.project_set.specs.Rewrite.{comments_from, remarks_at, written_list, written_unit}
-use Rattle.project_set.proofs.RefusalLemmas.{all_built, built_action}
-use Rattle.project_set.proofs.Seen.{all_first}
+use Rattle.project_set.proofs.RefusalLemmas.{all_built}
 use Rattle.project_set.proofs.ShortPieces.{has_no_feed, no_feed_append, no_feed_name, name_is_short, IsShortLines, short_nothing, short_append, short_indented}
 use Rattle.project_set.proofs.ShortRemarks.{are_short_remarks, are_short_comments, are_writable, remarks_append, remarks_are_short, remarks_at_are_short, comments_from_are_short}
 use Rattle.project_set.proofs.SpellingLemmas.{PlainAction, action_is_plain, header_is_named}
@@ -80,19 +80,19 @@ continue_is_short label here more rest = record {
   names = rest.names;
 }
 
-module _ (found : CardFound) (unit : Option (List ℕ)) where
+module _ (found : CardFound) where
   -- a statement that can be converted, before a list
-  action_is_short : (card : Card) (a : Action) (label : ℕ) (more : Code) → read_card card ≡ Some (action a) → is_built_as unit (Some (action a)) ≡ true → ShortCode more → ShortCode (item label card.place (simple a) more)
+  action_is_short : (card : Card) (a : Action) (label : ℕ) (more : Code) → read_card card ≡ Some (action a) → is_built_as (Some (action a)) ≡ true → ShortCode more → ShortCode (item label card.place (simple a) more)
   action_is_short card a label more was built rest =
-      let parts = built_action unit a built in
-      let plain = action_is_plain card a (found card (action a) was) parts.built in
+      let parts = and_parts (is_built_action a) (is_short a) built in
+      let plain = action_is_plain card a (found card (action a) was) parts.0 in
       record {
-        listed = λ cs k left short e. action_and_more (left ++ remarks_at cs k) a (written_list cs (k + 1) [] more) (left_and_here cs k left short e) parts.short plain (rest.listed cs (k + 1) [] short refl);
+        listed = λ cs k left short e. action_and_more (left ++ remarks_at cs k) a (written_list cs (k + 1) [] more) (left_and_here cs k left short e) parts.1 plain (rest.listed cs (k + 1) [] short refl);
         names = list_all-append is_name (action_variables a) (code_variables more) ∙ and_from _ _ plain.named rest.names;
       }
 
   -- a statement that is read, before a list
-  join_is_short : (card : Card) (s : Built) (rest : List ReadCard) (more : Option Ended) → read_card card ≡ Some s → is_built_as unit (Some s) ≡ true → ShortEnded more → ShortEnded (join_code card.place s rest more)
+  join_is_short : (card : Card) (s : Built) (rest : List ReadCard) (more : Option Ended) → read_card card ≡ Some s → is_built_as (Some s) ≡ true → ShortEnded more → ShortEnded (join_code card.place s rest more)
   join_is_short card (program x) rest more was built short = tt
   join_is_short card (action a) rest None was built short = tt
   join_is_short card (action a) rest (Some r) was built short = action_is_short card a 0 r.0 was built short
@@ -102,13 +102,13 @@ module _ (found : CardFound) (unit : Option (List ℕ)) where
   join_is_short card end_of_unit (next ∷ rest) more was built short = tt
 
   -- the list that is read of cards that can be converted
-  list_is_short : (cards : List Card) → list_all (is_built_card unit) cards ≡ true → ShortEnded (read_code (map read_of cards))
+  list_is_short : (cards : List Card) → list_all is_built_card cards ≡ true → ShortEnded (read_code (map read_of cards))
   list_is_short [] built = tt
   list_is_short (card ∷ rest) built =
-      let b = and_parts (is_built_card unit card) (list_all (is_built_card unit) rest) built in
+      let b = and_parts (is_built_card card) (list_all is_built_card rest) built in
       go (read_card card) refl b.0 (list_is_short rest b.1)
     where
-      go : (o : Option Built) → read_card card ≡ o → is_built_as unit o ≡ true → ShortEnded (read_code (map read_of rest))
+      go : (o : Option Built) → read_card card ≡ o → is_built_as o ≡ true → ShortEnded (read_code (map read_of rest))
           → ShortEnded (option_and_then (λ s. join_code card.place s (map read_of rest) (read_code (map read_of rest))) o)
       go None was built short = tt
       go (Some s) was built short = join_is_short card s (map read_of rest) (read_code (map read_of rest)) was built short
@@ -136,8 +136,8 @@ pub record ShortUnit (u : SourceUnit) : Type 0 where
   pub listed : IsShortCode u.code
 
 -- the lines of what is written for such a unit are short
-pub unit_lines : (cs : List Comment) (first : ℕ) (u : SourceUnit) → are_short_comments cs ≡ true → ShortUnit u → IsShortLines (unit_text (written_unit cs first u))
-unit_lines cs first u short s =
+pub unit_lines : (cs : List Comment) (first : ℕ) (u : SourceUnit) → are_short_comments cs ≡ true → ShortUnit u → list_all is_name (variables u) ≡ true → IsShortLines (unit_text (written_unit cs first u))
+unit_lines cs first u short s named =
     let listed = s.listed (comments_from cs (first + 2)) (first + 1) [] (comments_from_are_short cs (first + 2) short) refl in
     short_append (short_append (short_append (short_append (short_append (short_append (short_append (short_append
     (remarks_are_short _ (remarks_at_are_short cs first short))
@@ -145,32 +145,30 @@ unit_lines cs first u short s =
     (remarks_are_short _ (remarks_at_are_short cs (first + 1) short)))
     (short_indented 2 (codes "IMPLICIT NONE") refl (omega arith)))
     (short_indented 2 (codes "SAVE") refl (omega arith)))
-    (declarations_are_short (variables u) (all_first is_name (code_variables u.code) s.names)))
+    (declarations_are_short (variables u) named))
     listed.printed_short)
     (remarks_are_short _ listed.tail))
     (word_and_name 0 (codes "END PROGRAM ") u.name refl (omega arith) s.named)
 
-module _ (found : CardFound) (unit : Option (List ℕ)) where
+module _ (found : CardFound) where
   -- the unit that is read behind its first card
-  unit_with_is_short : (card : Card) (s : Built) (ended : Option Ended) → read_card card ≡ Some s → ShortEnded ended → IfSome (unit_with card.place s ended) ShortUnit
-  unit_with_is_short card (program x) None was short = tt
-  unit_with_is_short card (program x) (Some r) was short = record { named = header_is_named card x (found card (program x) was); names = short.names; listed = short.listed }
-  unit_with_is_short card (action a) ended was short = tt
-  unit_with_is_short card built.continue ended was short = tt
-  unit_with_is_short card end_of_unit ended was short = tt
+  unit_with_is_short : (text : List Line) (card : Card) (s : Built) (ended : Option Ended) → read_card card ≡ Some s → ShortEnded ended → IfSome (unit_with text card.place s ended) ShortUnit
+  unit_with_is_short text card (program x) None was short = tt
+  unit_with_is_short text card (program x) (Some r) was short = record { named = header_is_named card x (found card (program x) was); names = short.names; listed = short.listed }
+  unit_with_is_short text card (action a) ended was short = tt
+  unit_with_is_short text card built.continue ended was short = tt
+  unit_with_is_short text card end_of_unit ended was short = tt
 
   -- the unit that is read of cards that can be converted
-  cards_are_short : (cards : List Card) → list_all (is_built_card unit) cards ≡ true → IfSome (read_unit (map read_of cards)) ShortUnit
+  cards_are_short : (cards : List Card) → list_all is_built_card cards ≡ true → IfSome (read_unit (map read_of cards)) ShortUnit
   cards_are_short [] built = tt
   cards_are_short (card ∷ rest) built =
-      go (read_card card) refl (list_is_short found unit rest (and_parts (is_built_card unit card) (list_all (is_built_card unit) rest) built).1)
+      go (read_card card) refl (list_is_short found rest (and_parts (is_built_card card) (list_all is_built_card rest) built).1)
     where
-      go : (o : Option Built) → read_card card ≡ o → ShortEnded (read_code (map read_of rest)) → IfSome (option_and_then (λ s. unit_with card.place s (read_code (map read_of rest))) o) ShortUnit
+      go : (o : Option Built) → read_card card ≡ o → ShortEnded (read_code (map read_of rest)) → IfSome (option_and_then (λ s. unit_with (text_from 0 (map read_of (card ∷ rest))) card.place s (read_code (map read_of rest))) o) ShortUnit
       go None was short = tt
-      go (Some s) was short = unit_with_is_short card s (read_code (map read_of rest)) was short
+      go (Some s) was short = unit_with_is_short (text_from 0 (map read_of (card ∷ rest))) card s (read_code (map read_of rest)) was short
 
 -- so is the unit that is read of a file of which no statement is refused
 pub unit_is_short : CardFound → (cards : List Card) (u : SourceUnit) → unbuilt_refusals cards ≡ [] → read_unit (map read_of cards) ≡ Some u → ShortUnit u
-unit_is_short found cards u none e =
-    let name = program_name (map read_of cards) in
-    subst (λ o. IfSome o ShortUnit) e (cards_are_short found name cards (all_built name cards none))
+unit_is_short found cards u none e = subst (λ o. IfSome o ShortUnit) e (cards_are_short found cards (all_built cards none))

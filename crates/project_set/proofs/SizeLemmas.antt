@@ -7,7 +7,8 @@ use Rattle.program77.specs.Built.{Built, program, action, continue, end_of_unit}
 use Rattle.program77.specs.Tree.{SourceUnit}
 use Rattle.unit77.specs.declared.tree.Item77.{Item77}
 use Rattle.unit77.specs.Views.{items_of}
-use Rattle.program77.specs.SourceReading.{ReadCard, Ended, join_code, read_code, unit_with, read_unit}
+use Rattle.unit77.specs.Tree.{Line}
+use Rattle.program77.specs.SourceReading.{ReadCard, Ended, join_code, read_code, text_from, unit_with, read_unit}
 use Rattle.project_set.specs.Rewrite.{count_of, size_of}
 use Rattle.project_set.proofs.ItemLemmas.{first_of_items}
 
@@ -32,21 +33,21 @@ list_count (read ∷ rest) = go read.spelled (list_count rest)
     go None counted = tt
     go (Some s) counted = joined read.place s rest (read_code rest) counted
 
-headed : (here : Place) (s : Built) (n : ℕ) (ended : Option Ended) → HasCount n ended → IfSome (unit_with here s ended) (λ u. size_of u ≡ suc n)
-headed here (program x) n None counted = tt
-headed here (program x) n (Some r) counted = omega (arith, counted)
-headed here (action a) n ended counted = tt
-headed here continue n ended counted = tt
-headed here end_of_unit n ended counted = tt
+headed : (text : List Line) (here : Place) (s : Built) (n : ℕ) (ended : Option Ended) → HasCount n ended → IfSome (unit_with text here s ended) (λ u. size_of u ≡ suc n)
+headed text here (program x) n None counted = tt
+headed text here (program x) n (Some r) counted = omega (arith, counted)
+headed text here (action a) n ended counted = tt
+headed text here continue n ended counted = tt
+headed text here end_of_unit n ended counted = tt
 
 -- a unit that is read has a statement for each that it is read from
 pub unit_size : (reads : List ReadCard) (u : SourceUnit) → read_unit reads ≡ Some u → size_of u ≡ length reads
 unit_size [] u e = absurd cc
 unit_size (read ∷ rest) u e = subst (λ o. IfSome o (λ v. size_of v ≡ suc (length rest))) e (go read.spelled)
   where
-    go : (o : Option Built) → IfSome (option_and_then (λ s. unit_with read.place s (read_code rest)) o) (λ v. size_of v ≡ suc (length rest))
+    go : (o : Option Built) → IfSome (option_and_then (λ s. unit_with (text_from 0 (read ∷ rest)) read.place s (read_code rest)) o) (λ v. size_of v ≡ suc (length rest))
     go None = tt
-    go (Some s) = headed read.place s (length rest) (read_code rest) (list_count rest)
+    go (Some s) = headed (text_from 0 (read ∷ rest)) read.place s (length rest) (read_code rest) (list_count rest)
 
 -- how many statements a list has
 pub items_count : (is : List Item77) → count_of (code_of (items_of is)) ≡ length is

@@ -13,24 +13,20 @@ use Rattle.card_reader.specs.declared.card.Card.{Card}
 use Rattle.program77.specs.SourceReading.{ReadCard, read_card, read_of, reading_card}
 use Rattle.order77.specs.ReadViews.{reading_at, readings_from, readings_of}
 use Rattle.order77.specs.declared.read.ReadStatement.{ReadStatement}
-use Rattle.project_set.specs.Refusals.{program_name, is_built_as, is_built_card, not_built_at, unbuilt_refusals}
-
--- the refusals of some statements of a program of this name
-abbrev refused_of : Option (List ℕ) → List source.Card → List Refusal
-refused_of unit cards = map not_built_at (filter (λ card. not (is_built_card unit card)) cards)
+use Rattle.project_set.specs.Refusals.{is_built_as, is_built_card, not_built_at, unbuilt_refusals}
 
 -- the refusals of the first statements of a file
 abbrev pub so_far : List Card → ℕ → List Refusal
-so_far cards n = refused_of (program_name (map read_of (map card_of cards))) (map card_of (take n cards))
+so_far cards n = unbuilt_refusals (map card_of (take n cards))
 
 -- the refusals of one statement
-one_of : (unit : Option (List ℕ)) (card : source.Card) (b : Bool) → is_built_card unit card ≡ b → refused_of unit (card ∷ []) ≡ cond b [] (not_built_at card ∷ [])
-one_of unit card true is = ap (λ b. map not_built_at (cond (not b) (card ∷ []) [])) is
-one_of unit card false is = ap (λ b. map not_built_at (cond (not b) (card ∷ []) [])) is
+one_of : (card : source.Card) (b : Bool) → is_built_card card ≡ b → unbuilt_refusals (card ∷ []) ≡ cond b [] (not_built_at card ∷ [])
+one_of card true is = ap (λ b. map not_built_at (cond (not b) (card ∷ []) [])) is
+one_of card false is = ap (λ b. map not_built_at (cond (not b) (card ∷ []) [])) is
 
-more_of : (unit : Option (List ℕ)) (cards : List source.Card) (card : source.Card) → refused_of unit (cards ++ card ∷ []) ≡ refused_of unit cards ++ refused_of unit (card ∷ [])
-more_of unit cards card =
-    let passes : source.Card → Bool = λ c. not (is_built_card unit c) in
+more_of : (cards : List source.Card) (card : source.Card) → unbuilt_refusals (cards ++ card ∷ []) ≡ unbuilt_refusals cards ++ unbuilt_refusals (card ∷ [])
+more_of cards card =
+    let passes : source.Card → Bool = λ c. not (is_built_card c) in
     ap (map not_built_at) (filter-append passes cards (card ∷ [])) ∙ map-append not_built_at (filter passes cards) (filter passes (card ∷ []))
 
 -- what was read of a statement, wherever it stands
@@ -59,37 +55,31 @@ module _ (cards : List Card) (statements : List ReadStatement) (as_read : map re
       let whole : card_read read ≡ read_of (card_of card) = cc in
       ap (λ (r : ReadCard). r.spelled) whole
 
-  module _ (n m : ℕ) (card : Card) (read : ReadStatement) (unit : Option (List ℕ)) (built : Bool)
-      (next : m ≡ n + 1) (lt : n < length cards) (lt2 : n < length statements) (here : card ≡ get_or cards n card) (there : read ≡ get_or statements n read)
-      (named : unit ≡ program_name (map read_of (map card_of cards))) (asked : built ≡ is_built_as unit (card_read read).spelled) where
-    answered : is_built_card (program_name (map read_of (map card_of cards))) (card_of card) ≡ built
-    answered = sym (asked ∙ ap (is_built_as unit) (spelled_at n card read lt lt2 here there) ∙ ap (λ u. is_built_card u (card_of card)) named)
+  module _ (n m : ℕ) (card : Card) (read : ReadStatement) (built : Bool) (next : m ≡ n + 1) (lt : n < length cards) (lt2 : n < length statements)
+      (here : card ≡ get_or cards n card) (there : read ≡ get_or statements n read) (asked : built ≡ is_built_as (card_read read).spelled) where
+    answered : is_built_card (card_of card) ≡ built
+    answered = sym (asked ∙ ap is_built_as (spelled_at n card read lt lt2 here there))
 
-    so_far_more : so_far cards m ≡ so_far cards n ++ refused_of (program_name (map read_of (map card_of cards))) (card_of card ∷ [])
-    so_far_more =
-        let unit = program_name (map read_of (map card_of cards)) in
+    so_far_more : (b : Bool) → built ≡ b → so_far cards m ≡ so_far cards n ++ cond b [] (not_built_at (card_of card) ∷ [])
+    so_far_more b is =
         ap (so_far cards) next
-        ∙ ap (λ l. refused_of unit (map card_of l)) (take_more cards n card lt ∙ ap (λ x. take n cards ++ x ∷ []) (sym here))
-        ∙ ap (refused_of unit) (map-append card_of (take n cards) (card ∷ []))
-        ∙ more_of unit (map card_of (take n cards)) (card_of card)
+        ∙ ap (λ l. unbuilt_refusals (map card_of l)) (take_more cards n card lt ∙ ap (λ x. take n cards ++ x ∷ []) (sym here))
+        ∙ ap unbuilt_refusals (map-append card_of (take n cards) (card ∷ []))
+        ∙ more_of (map card_of (take n cards)) (card_of card)
+        ∙ ap (λ l. so_far cards n ++ l) (one_of (card_of card) b (answered ∙ is))
 
     -- a statement that is converted is not refused
     pub not_refused : (list : List Refusal) → built ≡ true → list ≡ so_far cards n → list ≡ so_far cards m
-    not_refused list is before =
-        before ∙ sym (append-nil (so_far cards n))
-        ∙ ap (λ l. so_far cards n ++ l) (sym (one_of (program_name (map read_of (map card_of cards))) (card_of card) true (answered ∙ is)))
-        ∙ sym so_far_more
+    not_refused list is before = before ∙ sym (append-nil (so_far cards n)) ∙ sym (so_far_more true is)
 
     -- another one is
     pub one_refused : (list new : List Refusal) (refusal : Refusal) → built ≡ false → refusal ≡ not_built_at (card_of card) → new ≡ list ++ refusal ∷ [] → list ≡ so_far cards n → new ≡ so_far cards m
     one_refused list new refusal is it pushed before =
-        pushed ∙ ap (λ l. l ++ refusal ∷ []) before ∙ ap (λ r. so_far cards n ++ r ∷ []) it
-        ∙ ap (λ l. so_far cards n ++ l) (sym (one_of (program_name (map read_of (map card_of cards))) (card_of card) false (answered ∙ is)))
-        ∙ sym so_far_more
+        pushed ∙ ap (λ l. l ++ refusal ∷ []) before ∙ ap (λ r. so_far cards n ++ r ∷ []) it ∙ sym (so_far_more false is)
 
   -- all statements were asked
   pub all_asked : (n : ℕ) (list : List Refusal) → n ≡ min (length cards) (length statements) → list ≡ so_far cards n → list ≡ unbuilt_refusals (map card_of cards)
   all_asked n list last before =
       let lengths : length statements ≡ length cards = sym (length-map statements card_read) ∙ ap length same ∙ length-map (map card_of cards) read_of ∙ length-map cards card_of in
       let all : n ≡ length cards = omega (arith, last, lengths) in
-      before ∙ ap (so_far cards) all ∙ ap (λ l. refused_of (program_name (map read_of (map card_of cards))) (map card_of l)) (take-length cards)
+      before ∙ ap (so_far cards) all ∙ ap (λ l. unbuilt_refusals (map card_of l)) (take-length cards)

@@ -5,7 +5,7 @@ pub mod Comments
 pub mod Skeleton
 pub mod Positions
 pub mod Report
-pub mod Variables
 pub mod Refusals
 pub mod Conversion
+pub mod Typed
 pub mod Laws

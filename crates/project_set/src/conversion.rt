@@ -1,5 +1,5 @@
 // The conversion of one file.
-ghost use Rattle.std.specs.Prelude.{◌≡◌, ◌≤◌, ◌+◌, ◌-◌, ◌∷◌, [], List, length, map, IfOk, OnOk};
+ghost use Rattle.std.specs.Prelude.{ℕ, ◌≡◌, ◌≤◌, ◌+◌, ◌-◌, ◌∷◌, [], IsTrue, List, length, map, IfOk, OnOk};
 ghost use Rattle.text_base.specs.Cards.{Comment, cards, comments};
 ghost use Rattle.text_base.specs.Lines.{cut_lines};
 ghost use Rattle.text_base.specs.LineRefusals.{card_refusals};
@@ -7,6 +7,9 @@ ghost use Rattle.card_reader.specs.Deck.{card_of, deck_comments};
 ghost use Rattle.program77.specs.Plain.{source_of};
 ghost use Rattle.program77.specs.Typing.{variables};
 ghost use Rattle.parse77.specs.Statement.{file_readings};
+ghost use Rattle.unit77.specs.UnitViews.{unit_of};
+ghost use Rattle.implicit_types.specs.Typing.{has_no_equivalence, refusals_of};
+ghost use Rattle.implicit_types.specs.Views.{shown_entity};
 ghost use Rattle.order77.specs.ReadViews.{readings_of};
 ghost use Rattle.project_set.specs.Comments.{ArePlaced};
 ghost use Rattle.tree90.specs.Printed.{printed};
@@ -14,11 +17,11 @@ ghost use Rattle.project_set.specs.Conversion.{IsConvertible, IsConversion, Refu
 ghost use Rattle.project_set.specs.Laws.{IsFaithful};
 ghost use Rattle.project_set.specs.Report.{report_text};
 ghost use Rattle.parse77.specs.Statement.{deck_refusals};
-ghost use Rattle.project_set.specs.Refusals.{unbuilt_refusals};
+ghost use Rattle.project_set.specs.Refusals.{refusal_of, refusals, unbuilt_refusals};
 ghost use Rattle.project_set.specs.Rewrite.{written};
 
 use crate::comments::Comments;
-use crate::laws::conversions_do_the_same;
+use crate::laws::{conversions_do_the_same, sources_are_typed};
 use crate::map::map_of;
 use crate::refusals::unbuilt_refusals;
 use crate::report::{Counts, report};
@@ -26,6 +29,7 @@ use crate::rewrite::rewritten;
 use crate::variables::variables;
 use card_reader::{CardsError, Deck, read_cards};
 use free_printer::print;
+use implicit_types::{TypeError, Typed, type_unit};
 use order77::ReadStatement;
 use parse77::{ParseError, files_are_units, read_accepted};
 use program77::{main_program, sources_are_read, unit_name};
@@ -142,8 +146,23 @@ struct Source {
     cut: u32,
 }
 
+// The typing of a unit. What is refused of its names and their types is refused.
+fn typed_unit<'a>(alloc: Global, unit: &'a Unit77) -> Result<Typed<'a>, ConvertError>
+    requires { IsTrue (has_no_equivalence (unit_of unit.now)) }
+    ensures entities { IfOk result (λ typed. map shown_entity typed.entities ≡ (source_of unit.now).entities) }
+    ensures accepted { OnOk result (refusals_of (unit_of unit.now) ≡ []) }
+    ensures refused { (bytes : List ℕ) → refusals bytes ≡ map refusal_of (refusals_of (unit_of unit.now)) → RefusesWith bytes result }
+{
+    match type_unit(alloc, unit) {
+        Ok(typed) => Ok(typed),
+        Err(TypeError::Refused(refusals)) => Err(ConvertError::Refused(refusals)),
+        Err(TypeError::Memory) => Err(ConvertError::Memory),
+    }
+}
+
 // The program that the bytes are the source of, with their comments. What is refused is refused phase by phase: of the
-// lines, of the statements and their units, of those that aren't converted yet, and of the statements as one main program.
+// lines, of the statements and their units, of those that aren't converted yet, of the statements as one main program, and of its
+// names and their types.
 fn read_source(alloc: Global, bytes: &[u8]) -> Result<Source, ConvertError>
     ensures found { IfOk result (λ s. IsConvertible bytes.now (record { units = source_of s.unit ∷ [] })) }
     ensures named { IfOk result (λ s. s.variables ≡ variables (source_of s.unit)) }
@@ -154,14 +173,15 @@ fn read_source(alloc: Global, bytes: &[u8]) -> Result<Source, ConvertError>
 {
     files_are_units();
     sources_are_read();
+    sources_are_typed();
     let parts = read_parts(alloc, bytes)?;
     let units = nest_units(alloc, parts.statements)?;
     let Some(unit) = main_program(units) else {
         return Err(ConvertError::Refused(not_built(alloc, 0)?));
     };
-    let Some(variables) = variables(alloc, &unit)? else {
-        return Err(ConvertError::Refused(not_built(alloc, 0)?));
-    };
+    let typed = typed_unit(alloc, &unit)?;
+    let variables = variables(alloc, typed.entities())?;
+    drop(typed);
     Ok(Source {
         unit,
         variables,
@@ -199,7 +219,7 @@ fn written_texts(alloc: Global, source: Source) -> Result<Outputs, AllocError>
 ///
 /// Out: the text of the program, the map of its storage, and the report. Where something is refused of the bytes, `Refused` with
 /// all refusals of the first phase that has any: of the lines, of the statements and the units that they are, of statements that
-/// aren't converted yet, of them as one main program. `Memory` may come in place of either where memory is wanted, and tells
+/// aren't converted yet, of them as one main program, of its names and their types. `Memory` may come in place of either where memory is wanted, and tells
 /// nothing of the file.
 pub fn convert(alloc: Global, bytes: &[u8]) -> Result<Outputs, ConvertError>
     ensures converts { IfOk result (λ o. IsConversion bytes.now o.text o.map o.report) }

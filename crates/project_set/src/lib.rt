@@ -11,4 +11,4 @@ mod rewrite;
 mod variables;
 
 pub use conversion::{ConvertError, Outputs, convert};
-pub use laws::{conversions_do_the_same, written_is_proper};
+pub use laws::{conversions_do_the_same, sources_are_typed, written_is_proper};

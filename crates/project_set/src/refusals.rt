@@ -1,17 +1,15 @@
 // What is refused of the statements of a file.
-ghost use Rattle.std.specs.Prelude.{ℕ, ◌≡◌, ◌&&◌, ◌∷◌, ◌++◌, [], map, IfOk, OnOk};
+ghost use Rattle.std.specs.Prelude.{ℕ, ◌≡◌, ◌∷◌, ◌++◌, [], map, IfOk, OnOk};
 ghost use Rattle.std.specs.List.{list_all};
-ghost use Rattle.std.specs.Option.{option_and_then};
 ghost use Rattle.text_base.specs.Trees.{assign, name};
 ghost use Rattle.card_reader.specs.Deck.{card_of};
 ghost use Rattle.expr_tree.specs.Plain.{expr_of, unary_of, binary_of};
 ghost use Rattle.program77.specs.Built.{action, built_of, built_simple};
 ghost use Rattle.tree77.specs.StatementPlain.{header_of, simple_of, statement_of};
 ghost use Rattle.tree77.specs.Statements as s;
-ghost use Rattle.program77.specs.Typing.{is_integer_name, is_variable};
 ghost use Rattle.order77.specs.ReadViews.{reading_at, readings_of};
-ghost use Rattle.program77.specs.SourceReading.{header_name, read_of, reading_card};
-ghost use Rattle.project_set.specs.Refusals.{program_name, is_free_name, is_free_function, is_free, is_sign, is_arithmetic, is_integer_function, is_built_statement, is_built_as, not_built_at, unbuilt_refusals};
+ghost use Rattle.program77.specs.SourceReading.{read_of, reading_card};
+ghost use Rattle.project_set.specs.Refusals.{is_sign, is_arithmetic, is_integer_function, is_built, is_built_statement, is_built_as, not_built_at, unbuilt_refusals};
 
 use card_reader::Card;
 use free_printer::is_short_assignment;
@@ -22,76 +20,6 @@ use std::alloc::{AllocError, Global};
 use text_base::{Cause, Name, Refusal, Refusals};
 use tree77::{BinaryOp, Expr, Header77, Statement77, Stmt77, UnaryOp};
 use value_ops::{gives_integer, intrinsic};
-
-// The name that a header gives to a program, if it is a PROGRAM statement.
-fn header_program(header: &Header77) -> Option<Name>
-    ensures { result ≡ option_and_then header_name (built_of (s.header (header_of header.now))) }
-{
-    match header {
-        Header77::Program(name) => Some(name.copy()),
-        Header77::Subroutine(_, _) => None,
-        Header77::Function(_, _, _) => None,
-        Header77::BlockData(_) => None,
-    }
-}
-
-// The name that a statement gives to a program, if it is a PROGRAM statement.
-fn statement_program(statement: &Statement77) -> Option<Name>
-    ensures { result ≡ option_and_then header_name (built_of (statement_of statement.now)) }
-{
-    match statement {
-        Statement77::Header(header) => header_program(header),
-        Statement77::Simple(_) => None,
-        Statement77::Declared(_) => None,
-        Statement77::StmtFunction(_, _, _) => None,
-        Statement77::Guarded(_, _) => None,
-        Statement77::IfThen(_) => None,
-        Statement77::ElseIf(_) => None,
-        Statement77::Else => None,
-        Statement77::EndIf => None,
-        Statement77::Do(_, _) => None,
-        Statement77::End => None,
-    }
-}
-
-// The name that the first statement gives to the program, if it gives one.
-fn program_name(statements: &[ReadStatement]) -> Option<Name>
-    ensures { result ≡ program_name (map reading_card (readings_of statements.now)) }
-{
-    let first = statements.first()?;
-    if first.label != 0 || first.refusal.is_some() {
-        return None;
-    }
-    match &first.statement {
-        Some(statement) => statement_program(statement),
-        None => None,
-    }
-}
-
-fn is_integer_name(characters: &[u8]) -> bool
-    ensures { result ≡ is_integer_name characters.now }
-{
-    match characters {
-        [] => false,
-        [first, ..] => b'I' <= *first && *first <= b'N',
-    }
-}
-
-fn is_variable(unit: &Name, name: &Name) -> bool
-    ensures { result ≡ is_variable unit.now name.now }
-{
-    is_integer_name(name.as_slice()) && unit.as_slice() != name.as_slice()
-}
-
-// Whether an integer variable may have the name, in a program of this name.
-fn is_free_name(unit: &Option<Name>, name: &Name) -> bool
-    ensures { result ≡ is_free_name unit.now name.now }
-{
-    match unit {
-        Some(unit) => is_variable(unit, name),
-        None => is_integer_name(name.as_slice()),
-    }
-}
 
 // Whether the operator gives an integer, of an integer.
 fn is_sign(op: UnaryOp) -> bool
@@ -118,64 +46,45 @@ fn is_arithmetic(op: BinaryOp) -> bool
     }
 }
 
-// Whether the name is that of an intrinsic function that gives an integer, of so many integers.
-fn is_integer_function(name: &Name, count: usize) -> bool
-    ensures { result ≡ is_integer_function name.now count }
+// Whether the name is that of an intrinsic function that gives an integer, of one integer or of two.
+fn is_integer_function(name: &Name) -> bool
+    ensures { result ≡ is_integer_function name.now }
 {
     match intrinsic(name.as_slice()) {
-        Some(op) => gives_integer(op, count),
+        Some(op) => gives_integer(op, 1) || gives_integer(op, 2),
         None => false,
     }
 }
 
-// Whether a function may have the name, in a program of this name.
-fn is_free_function(unit: &Option<Name>, name: &Name) -> bool
-    ensures { result ≡ is_free_function unit.now name.now }
-{
-    match unit {
-        Some(unit) => unit.as_slice() != name.as_slice(),
-        None => true,
-    }
-}
-
-// Whether the name is that of an intrinsic function that gives an integer of so many integers, and not the program's.
-fn is_free_reference(unit: &Option<Name>, name: &Name, count: usize) -> bool
-    ensures { result ≡ (is_integer_function name.now count && is_free_function unit.now name.now) }
-{
-    is_integer_function(name, count) && is_free_function(unit, name)
-}
-
-// Whether the expression can be converted, and its variables and functions may have their names.
-#[cycle(free)]
-#[tactic(auto, using(expr_tree::proofs::Equations::expr_equations, crate::proofs::FreeLemmas::free_parts))]
-fn is_free_expr(unit: &Option<Name>, expr: &Expr) -> bool
-    ensures { result ≡ is_free unit.now (expr_of expr.now) }
+// Whether the expression can be converted.
+#[cycle(built)]
+#[tactic(auto, using(expr_tree::proofs::Equations::expr_equations, crate::proofs::BuiltLemmas::built_each))]
+fn is_built_expr(expr: &Expr) -> bool
+    ensures { result ≡ is_built (expr_of expr.now) }
 {
     match expr {
         Expr::Int(_) => true,
-        Expr::Name(name) => is_free_name(unit, name),
+        Expr::Name(_) => true,
         Expr::Call(function, arguments) => {
-            is_free_reference(unit, function, arguments.len())
-                && are_free(unit, arguments.as_slice())
+            is_integer_function(function) && are_built_exprs(arguments.as_slice())
         }
-        Expr::Unary(op, operand) => is_sign(*op) && is_free_expr(unit, operand.get()),
+        Expr::Unary(op, operand) => is_sign(*op) && is_built_expr(operand.get()),
         Expr::Binary(op, left, right) => {
-            is_arithmetic(*op)
-                && (is_free_expr(unit, left.get()) && is_free_expr(unit, right.get()))
+            is_arithmetic(*op) && (is_built_expr(left.get()) && is_built_expr(right.get()))
         }
-        Expr::Paren(inner) => is_free_expr(unit, inner.get()),
+        Expr::Paren(inner) => is_built_expr(inner.get()),
         Expr::Bool(_) => false,
         Expr::Text(_) => false,
         Expr::Substring(_, _, _) => false,
     }
 }
 
-#[cycle(free)]
-fn are_free(unit: &Option<Name>, exprs: &[Expr]) -> bool
-    ensures { result ≡ list_all (λ x. is_free unit.now (expr_of x)) exprs.now }
+#[cycle(built)]
+fn are_built_exprs(exprs: &[Expr]) -> bool
+    ensures { result ≡ list_all (λ x. is_built (expr_of x)) exprs.now }
 {
     for expr in exprs {
-        if !is_free_expr(unit, expr) {
+        if !is_built_expr(expr) {
             return false;
         }
     }
@@ -184,21 +93,19 @@ fn are_free(unit: &Option<Name>, exprs: &[Expr]) -> bool
 
 // Whether the line that is written for the assignment is short enough is asked last, since it takes longest.
 #[tactic(auto, using(expr_tree::proofs::Equations::expr_equations))]
-fn is_variable_built(unit: &Option<Name>, variable: &Name, value: &Expr) -> bool
-    ensures { result ≡ is_built_statement unit.now (action (assign (name variable.now) (expr_of value.now))) }
+fn is_variable_built(variable: &Name, value: &Expr) -> bool
+    ensures { result ≡ is_built_statement (action (assign (name variable.now) (expr_of value.now))) }
 {
-    is_free_name(unit, variable)
-        && is_free_expr(unit, value)
-        && is_short_assignment(&Expr::Name(variable.copy()), value, 1)
+    is_built_expr(value) && is_short_assignment(&Expr::Name(variable.copy()), value, 1)
 }
 
-// Whether the assignment can be converted in a program of this name.
+// Whether the assignment can be converted.
 #[tactic(auto, using(expr_tree::proofs::Equations::expr_equations))]
-fn is_assignment_built(unit: &Option<Name>, variable: &Expr, value: &Expr) -> bool
-    ensures { result ≡ is_built_as unit.now (built_simple (s.assign (expr_of variable.now) (expr_of value.now))) }
+fn is_assignment_built(variable: &Expr, value: &Expr) -> bool
+    ensures { result ≡ is_built_as (built_simple (s.assign (expr_of variable.now) (expr_of value.now))) }
 {
     match variable {
-        Expr::Name(name) => is_variable_built(unit, name, value),
+        Expr::Name(name) => is_variable_built(name, value),
         Expr::Int(_) => false,
         Expr::Bool(_) => false,
         Expr::Text(_) => false,
@@ -210,12 +117,12 @@ fn is_assignment_built(unit: &Option<Name>, variable: &Expr, value: &Expr) -> bo
     }
 }
 
-// Whether the simple statement can be converted in a program of this name. The line of STOP is short.
-fn is_simple_built(unit: &Option<Name>, statement: &Stmt77) -> bool
-    ensures { result ≡ is_built_as unit.now (built_simple (simple_of statement.now)) }
+// Whether the simple statement can be converted. The line of STOP is short.
+fn is_simple_built(statement: &Stmt77) -> bool
+    ensures { result ≡ is_built_as (built_simple (simple_of statement.now)) }
 {
     match statement {
-        Stmt77::Assign(variable, value) => is_assignment_built(unit, variable, value),
+        Stmt77::Assign(variable, value) => is_assignment_built(variable, value),
         Stmt77::Continue => true,
         Stmt77::Stop(None) => true,
         Stmt77::Stop(Some(_)) => false,
@@ -234,8 +141,8 @@ fn is_simple_built(unit: &Option<Name>, statement: &Stmt77) -> bool
 }
 
 // Whether the header is a PROGRAM statement.
-fn is_header_built(unit: &Option<Name>, header: &Header77) -> bool
-    ensures { result ≡ is_built_as unit.now (built_of (s.header (header_of header.now))) }
+fn is_header_built(header: &Header77) -> bool
+    ensures { result ≡ is_built_as (built_of (s.header (header_of header.now))) }
 {
     match header {
         Header77::Program(_) => true,
@@ -245,13 +152,13 @@ fn is_header_built(unit: &Option<Name>, header: &Header77) -> bool
     }
 }
 
-// Whether the statement can be converted in a program of this name.
-fn is_statement_built(unit: &Option<Name>, statement: &Statement77) -> bool
-    ensures { result ≡ is_built_as unit.now (built_of (statement_of statement.now)) }
+// Whether the statement can be converted.
+fn is_statement_built(statement: &Statement77) -> bool
+    ensures { result ≡ is_built_as (built_of (statement_of statement.now)) }
 {
     match statement {
-        Statement77::Header(header) => is_header_built(unit, header),
-        Statement77::Simple(simple) => is_simple_built(unit, simple),
+        Statement77::Header(header) => is_header_built(header),
+        Statement77::Simple(simple) => is_simple_built(simple),
         Statement77::End => true,
         Statement77::Declared(_) => false,
         Statement77::StmtFunction(_, _, _) => false,
@@ -264,15 +171,15 @@ fn is_statement_built(unit: &Option<Name>, statement: &Statement77) -> bool
     }
 }
 
-// Whether a statement that was read has no label, and can be converted in a program of this name.
-fn is_built(unit: &Option<Name>, read: &ReadStatement) -> bool
-    ensures { (n : ℕ) → result ≡ is_built_as unit.now (reading_card (reading_at n read.now)).spelled }
+// Whether a statement that was read has no label, and can be converted.
+fn is_built(read: &ReadStatement) -> bool
+    ensures { (n : ℕ) → result ≡ is_built_as (reading_card (reading_at n read.now)).spelled }
 {
     if read.label != 0 || read.refusal.is_some() {
         return false;
     }
     match &read.statement {
-        Some(statement) => is_statement_built(unit, statement),
+        Some(statement) => is_statement_built(statement),
         None => false,
     }
 }
@@ -303,10 +210,9 @@ pub fn unbuilt_refusals(
     requires { map reading_card (readings_of statements.now) ≡ map read_of (map card_of cards.now) }
     ensures { IfOk result (λ list. list ≡ unbuilt_refusals (map card_of cards.now)) }
 {
-    let unit = program_name(statements);
     let mut refusals = Items::new(alloc);
     for (card, read) in cards.iter().zip(statements) {
-        if !is_built(&unit, read) {
+        if !is_built(read) {
             refuse(alloc, &mut refusals, card)?;
         }
     }

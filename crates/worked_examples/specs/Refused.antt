@@ -2,7 +2,7 @@
 use Rattle.std.specs.Prelude.{ℕ, List, [], ◌∷◌, ◌++◌, flat_map, codes}
 use Rattle.text_base.specs.LineRefusals.{Begun}
 use Rattle.text_base.specs.declared.refusal.Cause.{Cause}
-use Rattle.text_base.specs.declared.refusal.Cause.TheVariants.{LineTooLong, BadLabelField, ContinuationFirst, BadCharacter, NotAStatement, Unsupported, ConstantRange, NameTooLong, StatementOrder, BadNesting, MissingEnd, NotBuilt}
+use Rattle.text_base.specs.declared.refusal.Cause.TheVariants.{LineTooLong, BadLabelField, ContinuationFirst, BadCharacter, NotAStatement, Unsupported, ConstantRange, NameTooLong, StatementOrder, BadNesting, MissingEnd, RealType, Redeclared, TypeMismatch, NotBuilt}
 use Rattle.text_base.specs.declared.refusal.Refusal.{Refusal}
 use Rattle.worked_examples.specs.Read.{at_line}
 use Rattle.worked_examples.specs.Sources.{blanks, zeros}
@@ -60,18 +60,19 @@ refused_sources =
     )
     -- several lines, in order, before any statement
     ∷ (program_with (codes "X     I = 1\n" ++ codes "      A = 1\n" ++ codes "      J =\t1\n"), at 2 BadLabelField (codes "1") ∷ at 4 BadCharacter (codes "10") ∷ [])
-    -- a real variable, the program's name as a variable, a label, and a relation
-    ∷ (program_with (codes "      A = 1\n"), at 2 NotBuilt (codes "A=1") ∷ [])
-    ∷ (codes "      PROGRAM I\n" ++ codes "      I = 1\n" ++ codes "      END\n", at 2 NotBuilt (codes "I=1") ∷ [])
+    -- a real variable, which is refused once, the program's name as a variable, a label, and a relation
+    ∷ (program_with (codes "      A = 1\n" ++ codes "      I = A\n"), at 2 RealType (codes "A") ∷ [])
+    ∷ (codes "      PROGRAM I\n" ++ codes "      I = 1\n" ++ codes "      END\n", at 2 Redeclared (codes "I") ∷ [])
     ∷ (program_with (codes "   10 I = 1\n"), at 2 NotBuilt (codes "I=1") ∷ [])
     ∷ (program_with (codes "      L = I .EQ. 2\n"), at 2 NotBuilt (codes "L=I.EQ.2") ∷ [])
-    -- an intrinsic function; a function that is none, one of too few arguments, and one of characters
+    -- an intrinsic function; a function that is none, and one of characters, before one of too few arguments
     ∷ (program_with (codes "      J = MAX(I, 2, -3)\n"), [])
-    ∷ (program_with (codes "      J = F(1)\n" ++ codes "      J = MOD(1)\n" ++ codes "      J = LEN('A')\n"), at 2 NotBuilt (codes "J=F(1)") ∷ at 3 NotBuilt (codes "J=MOD(1)") ∷ at 4 NotBuilt (codes "J=LEN('A')") ∷ [])
+    ∷ (program_with (codes "      J = F(1)\n" ++ codes "      J = MOD(1)\n" ++ codes "      J = LEN('A')\n"), at 2 NotBuilt (codes "J=F(1)") ∷ at 4 NotBuilt (codes "J=LEN('A')") ∷ [])
+    ∷ (program_with (codes "      J = MOD(1)\n"), at 2 TypeMismatch (codes "MOD") ∷ [])
     -- a function that has the program's name
-    ∷ (codes "      PROGRAM MOD\n" ++ codes "      J = 1 + MOD(1, 2)\n" ++ codes "      END\n", at 2 NotBuilt (codes "J=1+MOD(1,2)") ∷ [])
+    ∷ (codes "      PROGRAM MOD\n" ++ codes "      J = 1 + MOD(1, 2)\n" ++ codes "      END\n", at 2 Redeclared (codes "MOD") ∷ [])
     -- integer variables begin with I to N
-    ∷ (program_with (codes "      H = 1\n" ++ codes "      I = 1\n" ++ codes "      N = 1\n" ++ codes "      O = 1\n"), at 2 NotBuilt (codes "H=1") ∷ at 5 NotBuilt (codes "O=1") ∷ [])
+    ∷ (program_with (codes "      H = 1\n" ++ codes "      I = 1\n" ++ codes "      N = 1\n" ++ codes "      O = 1\n"), at 2 RealType (codes "H") ∷ at 5 RealType (codes "O") ∷ [])
     -- the first 12 characters are shown; each statement has its refusal
     ∷ (program_with (codes "      LONG = I12345 .EQ. 2\n" ++ codes "      GO TO 10\n"), at 2 NotBuilt (codes "LONG=I12345.") ∷ at 3 NotBuilt (codes "GOTO10") ∷ [])
     -- a written line of 132 characters, and one of 133
@@ -86,12 +87,12 @@ refused_sources =
     -- units without END
     ∷ (codes "      PROGRAM T\n" ++ codes "      I = 1\n", at 2 MissingEnd (codes "T") ∷ [])
     ∷ (program_with [] ++ codes "      I = 1\n", at 3 MissingEnd (codes "MAIN") ∷ [])
-    -- files that aren't one main program whose parts have types: an empty one, one without PROGRAM, one of two units, and one in
-    -- which the name of an intrinsic function is that of a variable
+    -- files that aren't one main program: an empty one, one without PROGRAM, and one of two units; and one in which the name of an
+    -- intrinsic function is that of a variable
     ∷ ([], at 0 NotBuilt (codes "0") ∷ [])
     ∷ (codes "      I = 1\n" ++ codes "      END\n", at 0 NotBuilt (codes "0") ∷ [])
     ∷ (program_with [] ++ codes "      I = 1\n" ++ codes "      END\n", at 0 NotBuilt (codes "0") ∷ [])
-    ∷ (program_with (codes "      MOD = 1\n" ++ codes "      J = MOD(1, 2)\n"), at 0 NotBuilt (codes "0") ∷ [])
+    ∷ (program_with (codes "      MOD = 1\n" ++ codes "      J = MOD(1, 2)\n"), at 3 Redeclared (codes "MOD") ∷ [])
     ∷ []
 
 -- a statement that has so many continuation lines

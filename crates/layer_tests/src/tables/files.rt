@@ -402,12 +402,12 @@ C     FIRST\n\n*     NEXT\n ~ t.f:0: 99 NotBuilt 0\n
  ~ t.f:0: 99 NotBuilt 0\n
 
 # a variable that isn't an integer, on either side
-      PROGRAM T\n      A = 1\n      END\n ~ t.f:2: 99 NotBuilt A=1\n
-      PROGRAM T\n      I = A\n      END\n ~ t.f:2: 99 NotBuilt I=A\n
+      PROGRAM T\n      A = 1\n      END\n ~ t.f:2: 14 RealType A\n
+      PROGRAM T\n      I = A\n      END\n ~ t.f:2: 14 RealType A\n
 
 # a variable of the program's name, on either side
-      PROGRAM I\n      I = 1\n      END\n ~ t.f:2: 99 NotBuilt I=1\n
-      PROGRAM I\n      J = I\n      END\n ~ t.f:2: 99 NotBuilt J=I\n
+      PROGRAM I\n      I = 1\n      END\n ~ t.f:2: 15 Redeclared I\n
+      PROGRAM I\n      J = I\n      END\n ~ t.f:2: 15 Redeclared I\n
 
 # a constant past the integers
       PROGRAM T\n      I = 2147483648\n      END\n ~ t.f:2: 9 ConstantRange 2147483648\n
@@ -461,9 +461,21 @@ C\n\
       go to 10\n\
       i = t\n\
       END\n ~ \
-t.f:2: 99 NotBuilt X=1\n\
-t.f:4: 99 NotBuilt GOTO10\n\
-t.f:5: 99 NotBuilt I=T\n
+t.f:4: 99 NotBuilt GOTO10\n
+
+# names and types come last, in order of lines, one refusal a statement, and a real name once
+      PROGRAM T\n\
+      x = 1\n\
+C\n\
+      i = mod(x, t)\n\
+      y = y + x + i\n\
+      j = k + t\n\
+      x = k\n\
+      END\n ~ \
+t.f:2: 14 RealType X\n\
+t.f:4: 15 Redeclared T\n\
+t.f:5: 14 RealType Y\n\
+t.f:6: 15 Redeclared T\n
 
 # a header that isn't first, and not what isn't converted yet
       x = 1\n\
@@ -642,29 +654,39 @@ C     ONE\n\
       I = MOD(J, MOD(K))\n\
       I = J .LT. K\n\
       END\n ~ \
-t.f:2: 99 NotBuilt I=MOD(7,4,2)\n\
-t.f:4: 99 NotBuilt I=MAX(J)\n\
 t.f:5: 99 NotBuilt I=KUBE(J)*2\n\
 t.f:7: 99 NotBuilt I=(J.AND.K)\n\
-t.f:9: 99 NotBuilt I=ABS(J,K)\n\
-t.f:10: 99 NotBuilt I=ABS()\n\
-t.f:11: 99 NotBuilt I=MAX(J,A)\n\
 t.f:12: 99 NotBuilt I=ICHAR('A')\n\
 t.f:13: 99 NotBuilt K(1)=2\n\
-t.f:14: 99 NotBuilt I=MOD(J,MOD(\n\
 t.f:15: 99 NotBuilt I=J.LT.K\n
+      PROGRAM T\n\
+      I = MOD(7, 4, 2)\n\
+C     ONE\n\
+      I = MAX(J)\n\
+      I = -(J*2)\n\
+      I = ABS(J, K)\n\
+      I = ABS()\n\
+      I = MAX(J, A)\n\
+      I = MOD(J, MOD(K))\n\
+      END\n ~ \
+t.f:2: 19 TypeMismatch MOD\n\
+t.f:4: 19 TypeMismatch MAX\n\
+t.f:6: 19 TypeMismatch ABS\n\
+t.f:7: 19 TypeMismatch ABS\n\
+t.f:8: 14 RealType A\n\
+t.f:9: 19 TypeMismatch MOD\n
 
 # a variable of the name of a function that is called, and not before what isn't converted yet
-      PROGRAM T\n      MOD = 7\n      I = MOD(MOD, 2)\n      END\n ~ t.f:0: 99 NotBuilt 0\n
+      PROGRAM T\n      MOD = 7\n      I = MOD(MOD, 2)\n      END\n ~ t.f:3: 15 Redeclared MOD\n
 
 # a function that has the program's name
-      PROGRAM MOD\n      I = 1\n      J = I - MOD(I, 2)\n      END\n ~ t.f:3: 99 NotBuilt J=I-MOD(I,2)\n
+      PROGRAM MOD\n      I = 1\n      J = I - MOD(I, 2)\n      END\n ~ t.f:3: 15 Redeclared MOD\n
       PROGRAM T\n\
       I = MAX(1, 2)\n\
 C\n\
       J = I*MAX\n\
       END\n ~ \
-t.f:0: 99 NotBuilt 0\n
+t.f:4: 15 Redeclared MAX\n
       PROGRAM T\n      MOD = MOD(7, 2)\n      STOP 1\n      END\n ~ t.f:3: 99 NotBuilt STOP1\n
 
 # a variable of the program's name, in parentheses and as an argument
@@ -672,6 +694,6 @@ t.f:0: 99 NotBuilt 0\n
       I = (MAX)*2\n\
       I = ABS(MAX)\n\
       END\n ~ \
-t.f:2: 99 NotBuilt I=(MAX)*2\n\
-t.f:3: 99 NotBuilt I=ABS(MAX)\n
+t.f:2: 15 Redeclared MAX\n\
+t.f:3: 15 Redeclared MAX\n
 ";

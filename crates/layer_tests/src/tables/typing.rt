@@ -299,6 +299,10 @@ pub const TYPED_UNITS: &str = r"
       PROGRAM T\n      INTEGER F\n      EXTERNAL F\n      J = F(1)\n      END\n ~ F Function integer; J Variable integer
 # a type behind names that have it
       PROGRAM T\n      JF(X) = X + 1\n      INTEGER X\n      END\n ~ JF StmtFunction integer; X Variable integer
+# a constant, arrays with it as a bound, and DATA
+      PROGRAM T\n      PARAMETER (N = 6)\n      INTEGER A(N), B(2, 2)\n      DATA A(2), A(3), A(4) /2*7, -1/, B /1, 2, 3, 4/\n      A(1) = B(2, 2) ** 2\n      END\n ~ N Constant integer 6; A Variable integer; B Variable integer
+# a program as one meets it
+      PROGRAM STOCK\n      INTEGER QTY(100), TOTAL\n      CHARACTER*8 ITEM\n      COMMON /LOT/ QTY, N\n      IDBL(K) = 2 * K\n      N = 0\n      TOTAL = 0\n   10 READ (5, 900, END=30) ITEM, K\n  900 FORMAT (A8, I5)\n      IF (K) 10, 10, 20\n   20 N = N + 1\n      QTY(N) = IDBL(K)\n      IF (N .LT. 100) GO TO 10\n   30 DO 40 I = 1, N\n      IF (QTY(I) .EQ. 0) GO TO 40\n      TOTAL = TOTAL + QTY(I)\n   40 CONTINUE\n      WRITE (6, 910) N, TOTAL\n  910 FORMAT (1X, I5, I8)\n      END\n ~ QTY Variable integer; TOTAL Variable integer; ITEM Variable character*8; N Variable integer; IDBL StmtFunction integer; K Variable integer; I Variable integer
 ";
 
 /// The file of a unit, which is file 7; and all that is refused of it: for each statement its line, and number
@@ -864,4 +868,8 @@ pub const REFUSED_TYPES: &str = r"
       SUBROUTINE K\n      DATA K /1/\n      END\n ~ 2: 15 K
 # the main program's name in DATA and as a DO variable
       PROGRAM K\n      DATA K /1/\n      DO 10 K = 1, 2\n   10 CONTINUE\n      END\n ~ 2: 15 K; 3: 15 K
+# two subscripts of an array of one dimension
+      PROGRAM T\n      INTEGER A(2)\n      A(1, 1) = 1\n      END\n ~ 3: 20 A
+# a constant whose value has a zero divisor
+      PROGRAM T\n      PARAMETER (N = 1 / 0)\n      END\n ~ 2: 22 N
 ";
